@@ -1,0 +1,6 @@
+pub mod Parts
+pub mod Lists
+pub mod Joined
+pub mod Tests
+pub mod Lengths
+pub mod Bytes

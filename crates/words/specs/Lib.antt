@@ -1,0 +1,3 @@
+pub mod Parts
+pub mod Lists
+pub mod Pieces
