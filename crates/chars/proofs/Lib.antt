@@ -1,0 +1,12 @@
+pub mod Ranges
+pub mod Entries
+pub mod Steps
+pub mod Turns
+pub mod Rows
+pub mod Decoding
+pub mod Passes
+pub mod Rules
+pub mod Ascii
+pub mod Verdicts
+pub mod Spelling
+pub mod Encoding
