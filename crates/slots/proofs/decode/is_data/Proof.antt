@@ -1,0 +1,44 @@
+-- `slots::decode::is_data` meets its contract.
+-- Assumes nothing.
+use Rattle.slots.specs.Records.{isData}
+use borrow.Author.Needs.{needs}
+use Rattle.slots.proofs.decode.is_data.Statement.{statement}
+use Rattle.slots.proofs.decode.is_data.Tie as tie
+
+has-name-requires : tie.Need-has-name-requires
+has-name-requires c κs = search needs
+
+fits-requires : tie.Need-fits-requires
+fits-requires c κs = search needs
+
+fits-requires-2 : tie.Need-fits-requires-2
+fits-requires-2 c κs = search needs
+
+fits-requires-3 : tie.Need-fits-requires-3
+fits-requires-3 c κs = search needs
+
+both-requires : tie.Need-both-requires
+both-requires c κs = search needs
+
+both-requires-2 : tie.Need-both-requires-2
+both-requires-2 c κs = search needs
+
+both-requires-3 : tie.Need-both-requires-3
+both-requires-3 c κs = search needs
+
+returns : tie.Need-returns
+unfolding isData
+returns c = cc
+
+pub is-data-spec : {M : Type 1} → statement M
+is-data-spec =
+    tie.close
+    (tie.spec
+    has-name-requires
+    fits-requires
+    fits-requires-2
+    fits-requires-3
+    both-requires
+    both-requires-2
+    both-requires-3
+    returns)

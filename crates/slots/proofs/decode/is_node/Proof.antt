@@ -1,0 +1,36 @@
+-- `slots::decode::is_node` meets its contract.
+-- Assumes nothing.
+use Rattle.slots.specs.Records.{isNode}
+use borrow.Author.Needs.{needs}
+use Rattle.slots.proofs.decode.is_node.Statement.{statement}
+use Rattle.slots.proofs.decode.is_node.Tie as tie
+
+is-data-requires : tie.Need-is-data-requires
+is-data-requires c κs = search needs
+
+is-parent-requires : tie.Need-is-parent-requires
+is-parent-requires c κs = search needs
+
+are-ranges-requires : tie.Need-are-ranges-requires
+are-ranges-requires c κs = search needs
+
+both-requires : tie.Need-both-requires
+both-requires c κs = search needs
+
+both-requires-2 : tie.Need-both-requires-2
+both-requires-2 c κs = search needs
+
+returns : tie.Need-returns
+unfolding isNode
+returns c = cc
+
+pub is-node-spec : {M : Type 1} → statement M
+is-node-spec =
+    tie.close
+    (tie.spec
+    is-data-requires
+    is-parent-requires
+    are-ranges-requires
+    both-requires
+    both-requires-2
+    returns)

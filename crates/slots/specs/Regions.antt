@@ -1,0 +1,82 @@
+-- The one part that the crate is lent: for n slots the generations, n words; the free stack, n; the node records, 12 n; the order words, n.
+use mathlib.Core.Bool.{cond}
+use mathlib.Core.List.{List, [], _∷_}
+use Prim.Native.Nat.{ℕ, _+_, _*_}
+use lib.ListN.{getD, set, replicate}
+use lib.Dec.{ltb}
+use Rattle.words.specs.Parts.{part, put}
+use Rattle.slots.specs.declared.Loaded.{Loaded}
+use Rattle.slots.specs.declared.NodeRecord.{NodeRecord}
+use Rattle.slots.specs.declared.OrderKey.{OrderKey}
+use Rattle.slots.specs.declared.OrderKey.the-variants.{None, At}
+use Rattle.slots.specs.Records.{nodeOf}
+
+abbrev pub slotsWords : ℕ → ℕ
+slotsWords n = 15 * n
+
+-- where the records and the order words start
+abbrev pub recordStart : ℕ → ℕ → ℕ
+recordStart n s = n * 2 + s * 12
+
+abbrev pub orderStart : ℕ → ℕ
+orderStart n = n * 14
+
+-- twelve words, by name, and back
+abbrev pub readRecord : List ℕ → NodeRecord
+readRecord w = record {
+  kind = getD w 0 0;
+  name = getD w 1 0;
+  first = getD w 2 0;
+  second = getD w 3 0;
+  parent = getD w 4 0;
+  generation = getD w 5 0;
+  children = record { start = getD w 6 0; len = getD w 7 0 };
+  attributes = record { start = getD w 8 0; len = getD w 9 0 };
+  namespaces = record { start = getD w 10 0; len = getD w 11 0 };
+}
+
+abbrev pub recordWords : NodeRecord → List ℕ
+recordWords r =
+    r .kind ∷ r .name ∷ r .first ∷ r .second ∷ r .parent ∷ r .generation
+    ∷ r .children .start ∷ r .children .len ∷ r .attributes .start ∷ r .attributes .len ∷ r .namespaces .start ∷ r .namespaces .len ∷ []
+
+module _ (n : ℕ) (w : List ℕ) where
+  -- a slot's generation
+  unfoldable pub generationAt : ℕ → ℕ
+  generationAt s = getD w s 0
+
+  -- entry i of the free stack, the first freed at 0
+  unfoldable pub freeAt : ℕ → ℕ
+  freeAt i = getD w (n + i) 0
+
+  -- a slot's record, and the node that it is
+  unfoldable pub recordAt : ℕ → NodeRecord
+  recordAt s = readRecord (part (recordStart n s) 12 w)
+
+  unfoldable pub nodeAt : ℕ → Loaded
+  nodeAt s = nodeOf (recordAt s)
+
+  -- a slot's order word
+  unfoldable pub orderAt : ℕ → ℕ
+  orderAt s = getD w (orderStart n + s) 0
+
+  -- the words with one of these replaced
+  unfoldable pub putGeneration : ℕ → ℕ → List ℕ
+  putGeneration s g = set w s g
+
+  unfoldable pub putFree : ℕ → ℕ → List ℕ
+  putFree i s = set w (n + i) s
+
+  unfoldable pub putRecord : ℕ → NodeRecord → List ℕ
+  putRecord s r = put (recordStart n s) (recordWords r) w
+
+  unfoldable pub putOrder : ℕ → ℕ → List ℕ
+  putOrder s key = set w (orderStart n + s) key
+
+-- the words with no position for the slots made
+unfoldable pub clearOrder : ℕ → List ℕ → ℕ → List ℕ
+clearOrder n w made = put (orderStart n) (replicate made 4294967295) w
+
+-- 01: "no key for an order word above 32 bits", and 4,294,967,295 "for nodes outside and free slots"
+unfoldable pub keyOf : ℕ → OrderKey
+keyOf word = cond (ltb word 4294967295) (At word) None
