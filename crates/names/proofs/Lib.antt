@@ -1,0 +1,5 @@
+pub mod Lists
+pub mod Table
+pub mod Words
+pub mod Search
+pub mod Append

@@ -1,0 +1,30 @@
+-- `texts::text_place` meets its contract.
+-- Assumes nothing.
+use mathlib.Core.Path.{_≡_}
+use mathlib.Core.List.{List}
+use Prim.Native.Nat.{ℕ}
+use Rattle.words.specs.Pieces.{placeOf}
+use Rattle.words.specs.declared.pieces.Place.{Place}
+use borrow.Author.Needs.{needs}
+use Rattle.texts.proofs.text_place.Statement.{statement}
+use Rattle.texts.proofs.text_place.Tie as tie
+
+shown : (a b n used slot : ℕ) (words : List ℕ) (r : Place) → n ≡ a → used ≡ b → r ≡ placeOf n used slot words → r ≡ placeOf a b slot words
+shown a b n used slot words r e f g = rw (e, f) at g
+
+least-requires : tie.Need-least-requires
+least-requires c κs = search needs
+
+least-requires-2 : tie.Need-least-requires-2
+least-requires-2 c κs = search needs
+
+locate-requires : tie.Need-locate-requires
+locate-requires c κs = search needs
+
+returns : tie.Need-returns
+returns c =
+    let a = c .before .before .before .before .args in
+    shown _ _ _ _ (a .slot) (a .words .now) _ (c .before .before .least .ensures) (c .before .least2 .ensures) (c .locate .ensures)
+
+pub text-place-spec : {M : Type 1} → statement M
+text-place-spec = tie.close (tie.spec least-requires least-requires-2 locate-requires returns)

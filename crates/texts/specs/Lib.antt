@@ -1,0 +1,3 @@
+pub mod Pool
+pub mod Rule
+pub mod Words
