@@ -1,0 +1,12 @@
+pub mod Refusals
+pub mod Kinds
+pub mod Doc
+pub mod Edits
+pub mod Arguments
+pub mod Checks
+pub mod Calls
+pub mod Rules
+pub mod Tree
+pub mod Claim
+pub mod Examples
+pub mod RulesTest
