@@ -1,0 +1,15 @@
+pub mod Limits
+pub mod Reading
+pub mod Columns
+pub mod Shaped
+pub mod Columned
+pub mod Written
+pub mod Steps
+pub mod Writers
+pub mod Arenas
+pub mod BlockSteps
+pub mod Counted
+pub mod Linked
+pub mod Kept
+pub mod Promises
+pub mod Shown
