@@ -1,0 +1,9 @@
+pub mod Lists
+pub mod Marks
+pub mod Entering
+pub mod Live
+pub mod Counting
+pub mod Paths
+pub mod Fields
+pub mod Texts
+pub mod Decoded

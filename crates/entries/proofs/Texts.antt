@@ -1,0 +1,368 @@
+-- Rule 8: where the counts are within the limits, what the layers of texts and names say of themselves and the marks decide it.
+-- Assumes nothing.
+use mathlib.Core.Path.{_≡_, refl, sym, ap, _∙_}
+use mathlib.Core.Bool.{Bool, true, false, not, _&&_, cond, and-false}
+use mathlib.Core.Option.{Option, some}
+use mathlib.Core.List.{List, [], _∷_, reverse}
+use Prim.Native.Nat.{ℕ, zero, suc, _+_, _-_, _*_, _≤_, _<_, min}
+use native.Mathlib.Decide.{ℕ-discrete, decLt}
+use native.Mathlib.Omega.{arith}
+use lib.ListN.{length, getD, take, drop, replicate, length-append, List·getD-eq-default}
+use lib.Dec.{eqb, ltb}
+use borrow.Author.Tests.{eqb-true, eq-eqb, ne-eqb, ltb-true, le-ltb, le-leb}
+use Rattle.words.specs.Parts.{part}
+use Rattle.words.specs.Lists.{countOf, all, allBelow, sum}
+use Rattle.words.proofs.Parts.{lent, length-part}
+use Rattle.words.proofs.Lists.{length-tabulate, getD-tabulate}
+use Rattle.words.proofs.Tests.{and-left, and-right}
+use Rattle.words.proofs.Lengths.{sum-take-le}
+use Rattle.slots.proofs.Lists.{allBelow-next, allBelow-not, allBelow-same}
+use Rattle.texts.specs.Words as pool
+use Rattle.texts.specs.Words.{textShown, freeOk, poolOk, Markable, marked}
+use Rattle.texts.proofs.Lists.{countOf-reverse, marked-at, getD-count, all-count}
+use Rattle.texts.proofs.Words.{shown-text, text-length}
+use Rattle.names.specs.Table.{Name, name}
+use Rattle.names.specs.Words.{nameShown, nameThere, partShown, tableOk}
+use Rattle.names.proofs.Words.{there-leb, within-sums}
+use Rattle.model.specs.Kinds.{namesOf, textsOf}
+use Rattle.model.specs.Doc.{Doc, liveSlot, kindIn}
+use Rattle.model.specs.Rules.{held, heldIn, slotsHeld}
+use Rattle.model.specs.RulesTest.{implies, allLive, textsHold}
+use Rattle.memory.specs.declared.layout.Document.{Document}
+use Rattle.memory.specs.Layout.{limitsOf, textsAt, namesAt, memoryOk}
+use Rattle.memory.specs.Decode.{slotsMade, countsWithin, textLimits, textCounts, nameLimits, nameCounts, textsPart, namesPart, poolIn, shownBelow, namesIn, lengthsAdd, decode}
+use Rattle.memory.proofs.Limits.{limits-fit, memory-limits, memory-long, names-next, words-next, words-fit}
+use Rattle.memory.proofs.Counted.{CountsFit, counts-fit}
+use Rattle.memory.proofs.Columns as columns
+use Rattle.entries.specs.Nodes.{noTexts, decodeNodes}
+use Rattle.entries.specs.Marks.{Counted, Pass, gathered}
+use Rattle.entries.specs.Fields.{slotsInside, namesInside, fieldsHold, markedOne, slotsOnce}
+use Rattle.entries.proofs.Lists.{and-comm, allBelow-and, all-same, all-gathered, all-reverse}
+use Rattle.entries.proofs.Marks.{counted-none, passed, refused}
+
+-- ---- the two parts of the buffer
+
+module _ (d : Document) (mem : List ℕ) (ok : memoryOk d (length mem) ≡ true) where
+  pub record Parts : Type 0 where
+    pub texts : textsAt (limitsOf (d .limits)) + (2 * d .limits .texts + d .limits .textbytes) ≤ length mem
+    pub names : namesAt (limitsOf (d .limits)) + (2 * d .limits .names + d .limits .namebytes) ≤ length mem
+    pub texts-narrow : textsAt (limitsOf (d .limits)) + (2 * d .limits .texts + d .limits .textbytes) < 4294967296
+    pub names-narrow : namesAt (limitsOf (d .limits)) + (2 * d .limits .names + d .limits .namebytes) < 4294967296
+    pub slots : d .limits .texts ≤ 131072
+
+  pub parts : Parts
+  parts =
+      let l = limitsOf (d .limits) in
+      let f = limits-fit l (memory-limits d (length mem) ok) in
+      let w = words-fit l f in
+      let long = memory-long d (length mem) ok in
+      record {
+        texts = omega (arith, names-next l, words-next l);
+        names = omega (arith, words-next l);
+        texts-narrow = omega (arith, names-next l, words-next l);
+        names-narrow = omega (arith, words-next l);
+        slots = f .texts;
+      }
+
+module _ (d : Document) (mem : List ℕ) (start : ℕ) where
+  pub texts-part : start ≡ textsAt (limitsOf (d .limits))
+      → take (start + (2 * d .limits .texts + d .limits .textbytes) - start) (drop start mem) ≡ textsPart d mem
+  texts-part e =
+      lent mem start (2 * d .limits .texts + d .limits .textbytes)
+      ∙ ap (λ (s : ℕ). part s (2 * d .limits .texts + d .limits .textbytes) mem) e
+
+  pub names-part : start ≡ namesAt (limitsOf (d .limits))
+      → take (start + (2 * d .limits .names + d .limits .namebytes) - start) (drop start mem) ≡ namesPart d mem
+  names-part e =
+      lent mem start (2 * d .limits .names + d .limits .namebytes)
+      ∙ ap (λ (s : ℕ). part s (2 * d .limits .names + d .limits .namebytes) mem) e
+
+pub length-texts : (d : Document) (mem : List ℕ) → memoryOk d (length mem) ≡ true → length (textsPart d mem) ≡ d .limits .texts + d .limits .texts + d .limits .textbytes
+length-texts d mem ok =
+    length-part mem (textsAt (limitsOf (d .limits))) (2 * d .limits .texts + d .limits .textbytes) (parts d mem ok .texts) ∙ omega arith
+
+-- ---- the marks
+
+module _ (marks : List ℕ) where
+  pub one-next : (s : ℕ) → allBelow (markedOne marks) s ≡ true → getD marks s 0 ≡ 1 → allBelow (markedOne marks) (s + 1) ≡ true
+  unfolding markedOne
+  one-next s h e = allBelow-next (λ i. eqb (getD marks i 0) 1) s h (eq-eqb (getD marks s 0) 1 e)
+
+  pub one-not : (n s : ℕ) → s < n → (getD marks s 0 ≡ 1 → ⊥) → false ≡ allBelow (markedOne marks) n
+  unfolding markedOne
+  one-not n s b e = sym (allBelow-not (λ i. eqb (getD marks i 0) 1) n s b (ne-eqb (getD marks s 0) 1 e))
+
+both-told : (h f : ℕ) → eqb (min 2 h + f) 1 ≡ eqb (h + f) 1
+both-told h f = go (ℕ-discrete (h + f) 1)
+  where
+    go : Dec (h + f ≡ 1) → eqb (min 2 h + f) 1 ≡ eqb (h + f) 1
+    go (yes e) = eq-eqb (min 2 h + f) 1 (omega arith) ∙ sym (eq-eqb (h + f) 1 e)
+    go (no n) = ne-eqb (min 2 h + f) 1 (λ q. n (omega arith)) ∙ sym (ne-eqb (h + f) 1 n)
+
+-- ---- counting the free list behind the fields
+
+module _ (D : Doc) (marks m : List ℕ) (t : Bool) (texts names n : ℕ)
+    (p : Pass (length marks) (allBelow (fieldsHold texts names D) n) (gathered (heldIn D) n) marks m t) where
+  pub slots-refused : not t ≡ true → (free : List ℕ) → false ≡ (allBelow (fieldsHold texts names D) n && slotsOnce texts D n free)
+  slots-refused e free = rw (← p .answer, refused t e)
+
+  module _ (e : not t ≡ false) (z : marks ≡ replicate (length marks) 0) (l : length m ≡ length marks) where
+    counted : Counted (length marks) (gathered (heldIn D) n) m
+    counted = p .counts (passed t e) .adds [] (counted-none (length marks) marks (omega arith) z)
+
+    small-mark : (s : ℕ) → getD m s 0 ≤ 2
+    small-mark s = go (decLt s (length marks))
+      where
+        go : Dec (s < length marks) → getD m s 0 ≤ 2
+        go (yes b) = omega (arith, counted .mark s b)
+        go (no b) = omega (arith, List·getD-eq-default m 0 {n = s} (omega arith))
+
+    pub markable : (made : ℕ) (words free : List ℕ) → all (freeOk made words) free ≡ true → made ≤ length marks → length free ≤ 131072 → Markable free m
+    markable made words free h b k = record {
+      inside = λ i q.
+          let y = all-count (freeOk made words) free (getD free i 0) h (getD-count free i q) in
+          let w = ltb-true (getD free i 0) made (and-left (ltb (getD free i 0) made) (eqb (getD words (getD free i 0) 0) 0) y) in
+          omega arith;
+      small = λ s. omega (arith, small-mark s);
+    }
+
+    pub slots-decided : (after free : List ℕ) (r : Bool) → after ≡ marked free m → texts ≤ length marks → r ≡ allBelow (markedOne after) texts
+        → r ≡ (allBelow (fieldsHold texts names D) n && slotsOnce texts D n free)
+    unfolding markedOne slotsOnce
+    slots-decided after free r q b g =
+        g
+        ∙ allBelow-same (λ s. eqb (getD after s 0) 1) (λ s. eqb (countOf (eqb s) (gathered (heldIn D) n) + countOf (eqb s) free) 1) texts
+        (λ s i.
+        ap (λ (a : List ℕ). eqb (getD a s 0) 1) q
+        ∙ ap (λ (k : ℕ). eqb k 1) (marked-at free m s (omega arith))
+        ∙ ap (λ (k : ℕ). eqb (k + countOf (eqb s) free) 1) (counted .mark s (omega arith))
+        ∙ both-told (countOf (eqb s) (gathered (heldIn D) n)) (countOf (eqb s) free))
+        ∙ sym (rw (← p .answer, passed t e))
+
+-- ---- what the layers say, in the document's words
+
+-- names are shown up to the count where each is there
+shown-all : (f : ℕ → Option Name) (n : ℕ) → ((i : ℕ) → i < n → (x : Name) × (f i ≡ some x)) → length (shownBelow f n) ≡ n
+shown-all f zero h = refl
+shown-all f (suc n) h =
+    let o = h n (omega arith) in
+    rw (o .1) (length-append (shownBelow f n) (o .0 ∷ []) ∙ omega (arith, shown-all f n (λ i b. h i (omega arith))))
+
+module _ (d : Document) (mem : List ℕ) (ok : memoryOk d (length mem) ≡ true) (within : countsWithin (limitsOf (d .limits)) (d .counts) ≡ true) where
+  fit : CountsFit (limitsOf (d .limits)) (d .counts)
+  fit = counts-fit (limitsOf (d .limits)) (d .counts) within
+
+  abbrev stack : List ℕ
+  stack = part (d .limits .texts) (d .counts .freetexts) (textsPart d mem)
+
+  abbrev textSum : ℕ
+  textSum = sum (take (d .counts .texts) (textsPart d mem))
+
+  abbrev nameSum : ℕ
+  nameSum = sum (take (d .counts .names + d .counts .names) (namesPart d mem))
+
+  pool-is : poolOk (textLimits d) (textCounts d) (textsPart d mem) ≡ (eqb textSum (d .counts .textbytes) && all (freeOk (d .counts .texts) (textsPart d mem)) stack)
+  unfolding poolOk
+  pool-is =
+      rw (
+        le-leb (d .counts .texts) (d .limits .texts) (fit .texts),
+        le-leb (d .counts .freetexts) (d .limits .texts) (fit .free-texts),
+        le-leb (d .counts .textbytes) (d .limits .textbytes) (fit .text-bytes),
+      )
+
+  table-is : tableOk (nameLimits d) (nameCounts d) (namesPart d mem) ≡ eqb nameSum (d .counts .namebytes)
+  table-is = within-sums (nameLimits d) (nameCounts d) (namesPart d mem) (fit .names) (fit .name-bytes)
+
+  texts-made : length (poolIn d mem .texts) ≡ d .counts .texts
+  texts-made =
+      length-tabulate (λ s. textShown (textLimits d) (textCounts d) s (textsPart d mem)) (min (d .counts .texts) (d .limits .texts))
+      ∙ omega (arith, fit .texts)
+
+  free-made : poolIn d mem .free ≡ reverse stack
+  free-made =
+      let e : min (d .counts .freetexts) (d .limits .texts) ≡ d .counts .freetexts = omega (arith, fit .free-texts) in
+      ap (λ (k : ℕ). reverse (part (d .limits .texts) k (textsPart d mem))) e
+
+  module _ (h : textSum ≡ d .counts .textbytes) where
+    counts-held : pool.Counted (textLimits d) (textCounts d) (textsPart d mem)
+    counts-held = record { size = length-texts d mem ok; slots = fit .texts; free = fit .free-texts; bytes = fit .text-bytes; sums = h }
+
+    shown-length : (s : ℕ) → s < d .counts .texts → length (getD (poolIn d mem .texts) s []) ≡ getD (textsPart d mem) s 0
+    shown-length s b =
+        ap length
+        (getD-tabulate (λ s. textShown (textLimits d) (textCounts d) s (textsPart d mem)) (min (d .counts .texts) (d .limits .texts)) s [] (omega (arith, fit .texts))
+        ∙ shown-text (textLimits d) (textCounts d) (textsPart d mem) counts-held s)
+        ∙ text-length (textLimits d) (textCounts d) (textsPart d mem) counts-held s b
+
+    free-is : all (λ s. ltb s (length (poolIn d mem .texts)) && eqb (length (getD (poolIn d mem .texts) s [])) 0) (poolIn d mem .free)
+        ≡ all (freeOk (d .counts .texts) (textsPart d mem)) stack
+    free-is =
+        ap (all (λ s. ltb s (length (poolIn d mem .texts)) && eqb (length (getD (poolIn d mem .texts) s [])) 0)) free-made
+        ∙ all-reverse (λ s. ltb s (length (poolIn d mem .texts)) && eqb (length (getD (poolIn d mem .texts) s [])) 0) stack
+        ∙ all-same (λ s. ltb s (length (poolIn d mem .texts)) && eqb (length (getD (poolIn d mem .texts) s [])) 0) (freeOk (d .counts .texts) (textsPart d mem)) stack
+        (λ s. ap (λ (n : ℕ). ltb s n && eqb (length (getD (poolIn d mem .texts) s [])) 0) texts-made ∙ go s (decLt s (d .counts .texts)))
+      where
+        go : (s : ℕ) → Dec (s < d .counts .texts)
+            → (ltb s (d .counts .texts) && eqb (length (getD (poolIn d mem .texts) s [])) 0) ≡ (ltb s (d .counts .texts) && eqb (getD (textsPart d mem) s 0) 0)
+        go s (yes b) = ap (λ (n : ℕ). ltb s (d .counts .texts) && eqb n 0) (shown-length s b)
+        go s (no b) = rw (le-ltb s (d .counts .texts) (omega arith))
+
+  module _ (h : nameSum ≡ d .counts .namebytes) where
+    there : (i : ℕ) → i < d .counts .names → nameThere (nameLimits d) (nameCounts d) i (namesPart d mem) ≡ true
+    there i b =
+        let m : sum (take (i + i + 2) (namesPart d mem)) ≤ nameSum = sum-take-le (namesPart d mem) (i + i + 2) (d .counts .names + d .counts .names) (omega arith) in
+        there-leb (nameLimits d) (nameCounts d) (namesPart d mem) i (omega (arith, fit .names))
+        ∙ le-leb (sum (take (i + i + 2) (namesPart d mem))) (min (d .counts .namebytes) (d .limits .namebytes)) (omega (arith, fit .name-bytes))
+
+    shown : (i : ℕ) → i < d .counts .names → (x : Name) × (nameShown (nameLimits d) (nameCounts d) i (namesPart d mem) ≡ some x)
+    unfolding nameShown
+    shown i b = (name (partShown (nameLimits d) (nameCounts d) i 0 (namesPart d mem)) (partShown (nameLimits d) (nameCounts d) i 1 (namesPart d mem)), rw (there i b))
+
+    names-made : length (namesIn d mem) ≡ d .counts .names
+    names-made =
+        let e : min (d .counts .names) (d .limits .names) ≡ d .counts .names = omega (arith, fit .names) in
+        ap (λ (k : ℕ). length (shownBelow (λ i. nameShown (nameLimits d) (nameCounts d) i (namesPart d mem)) k)) e
+        ∙ shown-all (λ i. nameShown (nameLimits d) (nameCounts d) i (namesPart d mem)) (d .counts .names) shown
+
+  -- ---- the parts of the test
+
+  slots-made : length (decodeNodes d mem .gens) ≡ slotsMade d
+  slots-made = columns.length-gens noTexts [] true d mem
+
+  -- each text slot once
+  once-is : allBelow (λ s. eqb (countOf (eqb s) (held (decode d mem)) + countOf (eqb s) (poolIn d mem .free)) 1) (length (poolIn d mem .texts))
+      ≡ slotsOnce (d .counts .texts) (decodeNodes d mem) (slotsMade d) stack
+  unfolding slotsOnce
+  once-is =
+      ap (allBelow (λ s. eqb (countOf (eqb s) (held (decode d mem)) + countOf (eqb s) (poolIn d mem .free)) 1)) texts-made
+      ∙ allBelow-same (λ s. eqb (countOf (eqb s) (held (decode d mem)) + countOf (eqb s) (poolIn d mem .free)) 1)
+      (λ s. eqb (countOf (eqb s) (gathered (heldIn (decodeNodes d mem)) (slotsMade d)) + countOf (eqb s) stack) 1)
+      (d .counts .texts)
+      (λ s b.
+      ap (λ (n : ℕ). eqb (countOf (eqb s) (gathered (heldIn (decodeNodes d mem)) n) + countOf (eqb s) (poolIn d mem .free)) 1) slots-made
+      ∙ ap (λ (k : ℕ). eqb (countOf (eqb s) (gathered (heldIn (decodeNodes d mem)) (slotsMade d)) + k) 1) (ap (countOf (eqb s)) free-made ∙ countOf-reverse (eqb s) stack))
+
+  -- the text slots of the fields
+  inside-is : all (λ s. ltb s (length (poolIn d mem .texts))) (held (decode d mem)) ≡ allBelow (λ i. slotsInside (d .counts .texts) (heldIn (decodeNodes d mem) i)) (slotsMade d)
+  unfolding slotsInside
+  inside-is =
+      ap (λ (n : ℕ). all (λ s. ltb s n) (held (decode d mem))) texts-made
+      ∙ ap (λ (n : ℕ). all (λ s. ltb s (d .counts .texts)) (gathered (heldIn (decodeNodes d mem)) n)) slots-made
+      ∙ all-gathered (λ s. ltb s (d .counts .texts)) (heldIn (decodeNodes d mem)) (slotsMade d)
+
+  -- their name numbers
+  names-is : nameSum ≡ d .counts .namebytes
+      → allLive (decode d mem) (λ i. all (λ n. ltb n (length (namesIn d mem))) (namesOf (kindIn (decode d mem) i)))
+      ≡ allBelow (λ i. implies (liveSlot (decodeNodes d mem) i) (namesInside (d .counts .names) (kindIn (decodeNodes d mem) i))) (slotsMade d)
+  unfolding allLive namesInside
+  names-is h =
+      ap (allBelow (λ i. implies (liveSlot (decode d mem) i) (all (λ n. ltb n (length (namesIn d mem))) (namesOf (kindIn (decode d mem) i))))) slots-made
+      ∙ ap (λ (k : ℕ). allBelow (λ i. implies (liveSlot (decodeNodes d mem) i) (all (λ n. ltb n k) (namesOf (kindIn (decodeNodes d mem) i)))) (slotsMade d)) (names-made h)
+
+  fields-are : allBelow (fieldsHold (d .counts .texts) (d .counts .names) (decodeNodes d mem)) (slotsMade d)
+      ≡ (allBelow (λ i. slotsInside (d .counts .texts) (heldIn (decodeNodes d mem) i)) (slotsMade d)
+      && allBelow (λ i. implies (liveSlot (decodeNodes d mem) i) (namesInside (d .counts .names) (kindIn (decodeNodes d mem) i))) (slotsMade d))
+  unfolding fieldsHold slotsInside
+  fields-are =
+      allBelow-same (fieldsHold (d .counts .texts) (d .counts .names) (decodeNodes d mem))
+      (λ i. slotsInside (d .counts .texts) (heldIn (decodeNodes d mem) i) && implies (liveSlot (decodeNodes d mem) i) (namesInside (d .counts .names) (kindIn (decodeNodes d mem) i)))
+      (slotsMade d) (λ i b. go i (liveSlot (decodeNodes d mem) i))
+      ∙ allBelow-and (λ i. slotsInside (d .counts .texts) (heldIn (decodeNodes d mem) i)) (λ i. implies (liveSlot (decodeNodes d mem) i) (namesInside (d .counts .names) (kindIn (decodeNodes d mem) i))) (slotsMade d)
+    where
+      go : (i : ℕ) (l : Bool)
+          → implies l (namesInside (d .counts .names) (kindIn (decodeNodes d mem) i) && slotsInside (d .counts .texts) (slotsHeld (textsOf (kindIn (decodeNodes d mem) i))))
+          ≡ (slotsInside (d .counts .texts) (cond l (slotsHeld (textsOf (kindIn (decodeNodes d mem) i))) []) && implies l (namesInside (d .counts .names) (kindIn (decodeNodes d mem) i)))
+      go i true = and-comm (namesInside (d .counts .names) (kindIn (decodeNodes d mem) i)) (slotsInside (d .counts .texts) (slotsHeld (textsOf (kindIn (decodeNodes d mem) i))))
+      go i false = refl
+
+  -- ---- the test
+
+  lengths-are : (a b : Bool) → eqb textSum (d .counts .textbytes) ≡ a → eqb nameSum (d .counts .namebytes) ≡ b → lengthsAdd d mem ≡ (a && b)
+  unfolding lengthsAdd
+  lengths-are a b e q = rw (e, q)
+
+  first-false : (a b c e f : Bool) → a ≡ false → false ≡ ((((a && b) && c) && e) && f)
+  first-false a b c e f h = rw h
+
+  fourth-false : (a b c e f : Bool) → e ≡ false → false ≡ ((((a && b) && c) && e) && f)
+  fourth-false a b c e f h = sym (rw (h, and-false ((a && b) && c)))
+
+  others-left : (a b c e f i n o : Bool) → a ≡ true → b ≡ o → c ≡ i → e ≡ true → f ≡ n → ((i && n) && o) ≡ ((((a && b) && c) && e) && f)
+  others-left a b c e f i n o ha hb hc he hf = rw (ha, hb, hc, he, hf) (go i n o)
+    where
+      go : (i n o : Bool) → ((i && n) && o) ≡ ((((true && o) && i) && true) && n)
+      go true true true = refl
+      go true true false = refl
+      go true false true = refl
+      go true false false = refl
+      go false n true = refl
+      go false n false = refl
+
+  sum-differs : (textSum ≡ d .counts .textbytes → ⊥) → false ≡ textsHold (decode d mem)
+  unfolding textsHold
+  sum-differs n = first-false (lengthsAdd d mem) _ _ _ _ (lengths-are false (eqb nameSum (d .counts .namebytes)) (ne-eqb textSum (d .counts .textbytes) n) refl)
+
+  free-differs : textSum ≡ d .counts .textbytes → all (freeOk (d .counts .texts) (textsPart d mem)) stack ≡ false → false ≡ textsHold (decode d mem)
+  unfolding textsHold
+  free-differs s n = fourth-false (lengthsAdd d mem) _ _ _ _ (free-is s ∙ n)
+
+  pub texts-refused : (t : Bool) → t ≡ poolOk (textLimits d) (textCounts d) (textsPart d mem) → not t ≡ true → false ≡ textsHold (decode d mem)
+  texts-refused t e h = go (ℕ-discrete textSum (d .counts .textbytes))
+    where
+      no-pool : (eqb textSum (d .counts .textbytes) && all (freeOk (d .counts .texts) (textsPart d mem)) stack) ≡ false
+      no-pool = sym pool-is ∙ sym e ∙ refused t h
+
+      go : Dec (textSum ≡ d .counts .textbytes) → false ≡ textsHold (decode d mem)
+      go (yes s) = free-differs s (rw (eq-eqb textSum (d .counts .textbytes) s) at no-pool)
+      go (no s) = sum-differs s
+
+  pub names-refused : (t : Bool) → t ≡ tableOk (nameLimits d) (nameCounts d) (namesPart d mem) → not t ≡ true → false ≡ textsHold (decode d mem)
+  unfolding textsHold
+  names-refused t e h =
+      first-false (lengthsAdd d mem) _ _ _ _
+      (lengths-are (eqb textSum (d .counts .textbytes)) false refl (sym table-is ∙ sym e ∙ refused t h) ∙ and-false (eqb textSum (d .counts .textbytes)))
+
+  module _ (t u : Bool) (et : t ≡ poolOk (textLimits d) (textCounts d) (textsPart d mem)) (ht : not t ≡ false) (eu : u ≡ tableOk (nameLimits d) (nameCounts d) (namesPart d mem)) (hu : not u ≡ false) where
+    pool-holds : (eqb textSum (d .counts .textbytes) && all (freeOk (d .counts .texts) (textsPart d mem)) stack) ≡ true
+    pool-holds = sym pool-is ∙ sym et ∙ passed t ht
+
+    text-sum : eqb textSum (d .counts .textbytes) ≡ true
+    text-sum = and-left (eqb textSum (d .counts .textbytes)) (all (freeOk (d .counts .texts) (textsPart d mem)) stack) pool-holds
+
+    name-sum : eqb nameSum (d .counts .namebytes) ≡ true
+    name-sum = sym table-is ∙ sym eu ∙ passed u hu
+
+    pub texts-decided : (r : Bool)
+        → r ≡ (allBelow (fieldsHold (d .counts .texts) (d .counts .names) (decodeNodes d mem)) (slotsMade d) && slotsOnce (d .counts .texts) (decodeNodes d mem) (slotsMade d) (part (d .limits .texts) (d .counts .freetexts) (textsPart d mem)))
+        → r ≡ textsHold (decode d mem)
+    unfolding textsHold
+    texts-decided r q =
+        q
+        ∙ ap (λ (b : Bool). b && slotsOnce (d .counts .texts) (decodeNodes d mem) (slotsMade d) stack) fields-are
+        ∙ others-left (lengthsAdd d mem) _ _ _ _ _ _ _ (lengths-are true true text-sum name-sum) once-is inside-is
+        (free-is (eqb-true textSum (d .counts .textbytes) text-sum)
+        ∙ and-right (eqb textSum (d .counts .textbytes)) (all (freeOk (d .counts .texts) (textsPart d mem)) stack) pool-holds)
+        (names-is (eqb-true nameSum (d .counts .namebytes) name-sum))
+
+  -- ---- what counting the free list asks
+
+  pub texts-inside : d .counts .texts ≤ d .limits .texts
+  texts-inside = fit .texts
+
+  pub free-inside : d .counts .freetexts ≤ d .limits .texts
+  free-inside = fit .free-texts
+
+  pub free-markable : poolOk (textLimits d) (textCounts d) (textsPart d mem) ≡ true → (marks m : List ℕ) (t : Bool)
+      → Pass (length marks) (allBelow (fieldsHold (d .counts .texts) (d .counts .names) (decodeNodes d mem)) (slotsMade d)) (gathered (heldIn (decodeNodes d mem)) (slotsMade d)) marks m t
+      → not t ≡ false → marks ≡ replicate (length marks) 0 → length m ≡ length marks → d .limits .texts ≤ length marks
+      → Markable (part (d .limits .texts) (d .counts .freetexts) (textsPart d mem)) m
+  free-markable h marks m t p e z l b =
+      markable (decodeNodes d mem) marks m t (d .counts .texts) (d .counts .names) (slotsMade d) p e z l (d .counts .texts) (textsPart d mem) stack
+      (and-right (eqb textSum (d .counts .textbytes)) (all (freeOk (d .counts .texts) (textsPart d mem)) stack) (sym pool-is ∙ h))
+      (omega (arith, fit .texts))
+      (omega (
+        arith,
+        length-part (textsPart d mem) (d .limits .texts) (d .counts .freetexts) (omega (arith, length-texts d mem ok, fit .free-texts)),
+        fit .free-texts,
+        parts d mem ok .slots,
+      ))

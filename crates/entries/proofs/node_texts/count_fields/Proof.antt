@@ -1,0 +1,76 @@
+-- `entries::node_texts::count_fields` meets its contract.
+-- Assumes nothing.
+use mathlib.Core.Path.{_∙_}
+use Prim.Native.Nat.{_-_}
+use native.Mathlib.Omega.{arith}
+use lib.ListN.{length}
+use Rattle.model.specs.Rules.{heldIn}
+use Rattle.memory.specs.Decode.{slotsMade}
+use Rattle.memory.proofs.Limits.{sizes}
+use Rattle.entries.specs.Nodes.{decodeNodes}
+use Rattle.entries.specs.Fields.{fieldsHold}
+use Rattle.entries.proofs.Marks.{Passing, passing-none, passing-next, passing-not, passing-all}
+use Rattle.entries.proofs.Fields.{pass-at}
+use Rattle.entries.proofs.node_texts.count_fields.Statement.{statement}
+use Rattle.entries.proofs.node_texts.count_fields.Tie as tie
+
+abbrev Inv-loop : tie.InvT-loop
+Inv-loop d mem marks₀ n i₀ marks i = Passing (length marks₀) (slotsMade d) (fieldsHold (d .counts .texts) (d .counts .names) (decodeNodes d mem)) (heldIn (decodeNodes d mem)) marks₀ marks i
+
+abbrev μ-loop : tie.MeasureT-loop
+μ-loop d mem marks₀ n i₀ marks i = slotsMade d - i
+
+made-requires : tie.Need-made-requires Inv-loop μ-loop
+made-requires c κs = tt
+
+loop-holds : tie.Need-loop-holds Inv-loop μ-loop
+loop-holds c = passing-none _ _ _ _ _
+
+cast-t7 : tie.Need-cast-t7 Inv-loop μ-loop
+cast-t7 c =
+    let s = c .before .before .before .before .before in
+    omega (arith, c .before .before .made .ensures, sizes (s .args .d) (length (s .args .mem .now)) (s .pre .0) .nodes)
+
+count-node-requires : tie.Need-count-node-requires Inv-loop μ-loop
+count-node-requires c κs =
+    let s = c .before .before .before .before .before .before .pre in
+    (s .0, omega (arith, c .before .before .before .made .ensures), omega (arith, c .before .before .loop .inv .same, s .1))
+
+same-length : tie.Need-same-length Inv-loop μ-loop
+same-length c = c .before .before .before .count-node .kept .1 .1 .1 .0 ∙ c .before .before .before .before .before .before .loop .inv .same
+
+returns : tie.Need-returns Inv-loop μ-loop
+returns c = passing-not _ _ _ _ _ _ _ _ (c .before .before .before .before .before .before .loop .inv) _ (omega (arith, c .before .before .before .before .before .before .before .made .ensures)) (pass-at _ _ _ _ _ _ _ (c .before .before .before .before .before .before .loop .inv .same) (c .before .before .before .count-node .ensures)) (c .if1 .taken)
+
+add-i : tie.Need-add-i Inv-loop μ-loop
+add-i c = omega arith
+
+loop-less : tie.Need-loop-less Inv-loop μ-loop
+loop-less c = omega (arith, c .before .before .before .before .before .before .before .made .ensures)
+
+loop-again : tie.Need-loop-again Inv-loop μ-loop
+loop-again c = passing-next _ _ _ _ _ _ _ _ (c .before .before .before .before .before .before .loop .inv) _ (omega (arith, c .before .before .before .before .before .before .before .made .ensures)) (c .before .before .before .count-node .kept .1 .1 .1 .0) (pass-at _ _ _ _ _ _ _ (c .before .before .before .before .before .before .loop .inv .same) (c .before .before .before .count-node .ensures)) (c .if1 .left)
+
+same-length-2 : tie.Need-same-length-2 Inv-loop μ-loop
+same-length-2 c = c .before .loop .inv .same
+
+returns-2 : tie.Need-returns-2 Inv-loop μ-loop
+returns-2 c = passing-all _ _ _ _ _ _ _ (c .before .loop .inv) (omega (arith, c .before .before .made .ensures))
+
+pub count-fields-spec : {M : Type 1} → statement M
+count-fields-spec =
+    tie.close
+    (tie.spec
+    Inv-loop
+    μ-loop
+    made-requires
+    loop-holds
+    cast-t7
+    count-node-requires
+    same-length
+    returns
+    add-i
+    loop-less
+    loop-again
+    same-length-2
+    returns-2)

@@ -1,0 +1,5 @@
+pub mod Nodes
+pub mod Marks
+pub mod Entering
+pub mod Paths
+pub mod Fields

@@ -1,0 +1,223 @@
+// Rule 8: the lengths of texts and names add up, as their layers say; each live node's text slots and those of the free text list are counted, and each text
+// slot is to have been counted once.
+ghost use mathlib.Core.Path.{_≡_};
+ghost use mathlib.Core.Bool.{true, _&&_};
+ghost use mathlib.Core.List.{[], _∷_};
+ghost use Prim.Native.Nat.{_<_, _≤_};
+ghost use lib.ListN.{length, replicate};
+ghost use Rattle.words.specs.Parts.{part};
+ghost use Rattle.words.specs.Lists.{allBelow};
+ghost use Rattle.texts.specs.Words.{poolOk, Markable, marked};
+ghost use Rattle.names.specs.Words.{tableOk};
+ghost use Rattle.model.specs.Rules.{heldIn, slotsHeld};
+ghost use Rattle.model.specs.RulesTest.{textsHold};
+ghost use Rattle.memory.specs.Layout.{limitsOf, memoryOk};
+ghost use Rattle.memory.specs.Decode.{kindOf, slotOf, slotsMade, countsWithin, textLimits, textCounts, nameLimits, nameCounts, textsPart, namesPart, decode};
+ghost use Rattle.entries.specs.Nodes.{decodeNodes};
+ghost use Rattle.entries.specs.Marks.{Pass, gathered};
+ghost use Rattle.entries.specs.Fields.{slotsInside, namesInside, fieldsHold, markedOne, slotsOnce};
+use crate::nodes::count;
+use crate::nodes::live;
+use memory::layout::Document;
+use names::NameCounts;
+use names::NameLimits;
+use slots::Chars;
+use slots::Loaded;
+use slots::NodeData;
+use slots::NodeSlot;
+use texts::TextCounts;
+use texts::TextLimits;
+
+// Whether the name number of an element or an attribute is below the name count.
+fn names_inside(data: NodeData, names: usize) -> bool
+    ensures { λ r. ⌜ r ≡ namesInside names (kindOf «data») ⌝ }
+{
+    match data {
+        NodeData::Root => true,
+        NodeData::Element { name, .. } => {
+            let number = name.0;
+            (number as usize) < names
+        }
+        NodeData::Attr { name, .. } => {
+            let number = name.0;
+            (number as usize) < names
+        }
+        NodeData::Text(_) => true,
+        NodeData::Comment(_) => true,
+        NodeData::Namespace { .. } => true,
+        NodeData::ProcessingInstruction { .. } => true,
+    }
+}
+
+// A text field is tested and counted.
+fn count_text(text: Chars, texts: usize, marks: &mut [u64]) -> bool
+    requires { ⌜ texts ≤ length (now marks) ⌝ }
+    ensures { λ r. ⌜ Pass (length (now (marks .entry))) (slotsInside texts (slotsHeld (slotOf text ∷ []))) (slotsHeld (slotOf text ∷ [])) (now (marks .entry)) (now (marks .exit)) r ⌝ }
+{
+    match text {
+        Chars::Empty => true,
+        Chars::Expanded(slot) => {
+            let number = slot.0;
+            let s = number as usize;
+            if s >= texts {
+                return false;
+            }
+            count(marks, s);
+            true
+        }
+    }
+}
+
+fn count_texts(first: Chars, second: Chars, texts: usize, marks: &mut [u64]) -> bool
+    requires { ⌜ texts ≤ length (now marks) ⌝ }
+    ensures { λ r. ⌜ Pass (length (now (marks .entry))) (slotsInside texts (slotsHeld (slotOf first ∷ slotOf second ∷ []))) (slotsHeld (slotOf first ∷ slotOf second ∷ [])) (now (marks .entry)) (now (marks .exit)) r ⌝ }
+{
+    if !count_text(first, texts, marks) {
+        return false;
+    }
+    count_text(second, texts, marks)
+}
+
+// The fields of a slot, where it is live.
+fn count_node(d: Document, mem: &[u64], slot: NodeSlot, marks: &mut [u64]) -> bool
+    requires { ⌜ (memoryOk d (length (now mem)) ≡ true) × (slot .0 < slotsMade d) × (d .counts .texts ≤ length (now marks)) ⌝ }
+    ensures { λ r. ⌜ Pass (length (now (marks .entry))) (fieldsHold (d .counts .texts) (d .counts .names) (decodeNodes d (now (mem .entry))) (slot .0)) (heldIn (decodeNodes d (now (mem .entry))) (slot .0)) (now (marks .entry)) (now (marks .exit)) r ⌝ }
+{
+    let c = d.counts;
+    let node = live(d, mem, slot);
+    match node {
+        Loaded::Found(found) => {
+            let data = found.data;
+            if !names_inside(data, c.names) {
+                return false;
+            }
+            let first = slots::encode::first_text(data);
+            let second = slots::encode::second_text(data);
+            count_texts(first, second, c.texts, marks)
+        }
+        Loaded::NoNode => true,
+    }
+}
+
+// The fields of all slots.
+fn count_fields(d: Document, mem: &[u64], marks: &mut [u64]) -> bool
+    requires { ⌜ (memoryOk d (length (now mem)) ≡ true) × (d .counts .texts ≤ length (now marks)) ⌝ }
+    ensures { λ r. ⌜ Pass (length (now (marks .entry))) (allBelow (fieldsHold (d .counts .texts) (d .counts .names) (decodeNodes d (now (mem .entry)))) (slotsMade d)) (gathered (heldIn (decodeNodes d (now (mem .entry)))) (slotsMade d)) (now (marks .entry)) (now (marks .exit)) r ⌝ }
+{
+    let n = memory::read::made(d);
+    let mut i = 0;
+    while i < n {
+        if !count_node(d, mem, NodeSlot(i as u32), marks) {
+            return false;
+        }
+        i += 1;
+    }
+    true
+}
+
+// What the pool says of itself.
+fn texts_hold(d: Document, mem: &[u64]) -> bool
+    requires { ⌜ memoryOk d (length (now mem)) ≡ true ⌝ }
+    ensures { λ r. ⌜ r ≡ poolOk (textLimits d) (textCounts d) (textsPart d (now (mem .entry))) ⌝ }
+{
+    let l = d.limits;
+    let c = d.counts;
+    let start = memory::layout::texts_at(l);
+    let end = start + (2 * l.texts + l.textbytes);
+    let limits = TextLimits {
+        slots: l.texts,
+        bytes: l.textbytes,
+    };
+    let counts = TextCounts {
+        slots: c.texts,
+        free: c.freetexts,
+        bytes: c.textbytes,
+    };
+    texts::check::check_texts(&mem[start..end], limits, counts)
+}
+
+// What the name table says of itself.
+fn names_hold(d: Document, mem: &[u64]) -> bool
+    requires { ⌜ memoryOk d (length (now mem)) ≡ true ⌝ }
+    ensures { λ r. ⌜ r ≡ tableOk (nameLimits d) (nameCounts d) (namesPart d (now (mem .entry))) ⌝ }
+{
+    let l = d.limits;
+    let c = d.counts;
+    let start = memory::layout::names_at(l);
+    let end = start + (2 * l.names + l.namebytes);
+    let limits = NameLimits {
+        names: l.names,
+        bytes: l.namebytes,
+    };
+    let counts = NameCounts {
+        names: c.names,
+        bytes: c.namebytes,
+    };
+    names::check_names(&mem[start..end], limits, counts)
+}
+
+// Counts the free text list.
+fn count_free(d: Document, mem: &[u64], marks: &mut [u64])
+    requires { ⌜ (memoryOk d (length (now mem)) ≡ true) × (d .counts .freetexts ≤ d .limits .texts) × Markable (part (d .limits .texts) (d .counts .freetexts) (textsPart d (now mem))) (now marks) ⌝ }
+    ensures { λ _. ⌜ now (marks .exit) ≡ marked (part (d .limits .texts) (d .counts .freetexts) (textsPart d (now (mem .entry)))) (now (marks .entry)) ⌝ }
+{
+    let l = d.limits;
+    let c = d.counts;
+    let start = memory::layout::texts_at(l);
+    let end = start + (2 * l.texts + l.textbytes);
+    let limits = TextLimits {
+        slots: l.texts,
+        bytes: l.textbytes,
+    };
+    let counts = TextCounts {
+        slots: c.texts,
+        free: c.freetexts,
+        bytes: c.textbytes,
+    };
+    texts::check::mark_free(&mem[start..end], limits, counts, marks);
+}
+
+// Whether each text slot was counted once.
+fn all_once(marks: &[u64], texts: usize) -> bool
+    requires { ⌜ texts ≤ length (now marks) ⌝ }
+    ensures { λ r. ⌜ r ≡ allBelow (markedOne (now (marks .entry))) texts ⌝ }
+{
+    let mut s = 0;
+    while s < texts {
+        if marks[s] != 1 {
+            return false;
+        }
+        s += 1;
+    }
+    true
+}
+
+// The fields and the free list together, where the pool holds.
+fn check_slots(d: Document, mem: &[u64], marks: &mut [u64]) -> bool
+    requires { ⌜ (memoryOk d (length (now mem)) ≡ true) × (countsWithin (limitsOf (d .limits)) (d .counts) ≡ true) × (poolOk (textLimits d) (textCounts d) (textsPart d (now mem)) ≡ true) ⌝ }
+    requires { ⌜ (d .limits .texts ≤ length (now marks)) × (now marks ≡ replicate (length (now marks)) 0) ⌝ }
+    ensures { λ r. ⌜ r ≡ (allBelow (fieldsHold (d .counts .texts) (d .counts .names) (decodeNodes d (now (mem .entry)))) (slotsMade d) && slotsOnce (d .counts .texts) (decodeNodes d (now (mem .entry))) (slotsMade d) (part (d .limits .texts) (d .counts .freetexts) (textsPart d (now (mem .entry))))) ⌝ }
+{
+    if !count_fields(d, mem, marks) {
+        return false;
+    }
+    count_free(d, mem, marks);
+    let c = d.counts;
+    all_once(marks, c.texts)
+}
+
+// Whether rule 8 holds, where the counts are within the limits (rule 1). The marks, a word for each text slot that the limit allows, are all zero before, and
+// anything after.
+pub fn check_texts(d: Document, mem: &[u64], marks: &mut [u64]) -> bool
+    requires { ⌜ (memoryOk d (length (now mem)) ≡ true) × (countsWithin (limitsOf (d .limits)) (d .counts) ≡ true) ⌝ }
+    requires { ⌜ (d .limits .texts ≤ length (now marks)) × (now marks ≡ replicate (length (now marks)) 0) ⌝ }
+    ensures { λ r. ⌜ r ≡ textsHold (decode d (now (mem .entry))) ⌝ }
+{
+    if !texts_hold(d, mem) {
+        return false;
+    }
+    if !names_hold(d, mem) {
+        return false;
+    }
+    check_slots(d, mem, marks)
+}

@@ -1,0 +1,269 @@
+-- Rule 1: the tests of the counts, of the words and of the Root are the rule's.
+-- Assumes nothing.
+use mathlib.Core.Path.{_≡_, refl, sym, ap, ap₂, _∙_}
+use mathlib.Core.Bool.{Bool, true, false, not, _&&_, cond, and-true, and-false, and-assoc, false≢true}
+use mathlib.Core.Option.{Option, none, some}
+use mathlib.Core.List.{List, []}
+use Prim.Native.Nat.{ℕ, _+_, _*_, _%_, _≤_, _<_}
+use native.Mathlib.Omega.{arith}
+use lib.ListN.{length, getD}
+use lib.Seq.{getD-drop}
+use lib.Dec.{eqb, ltb, leb}
+use borrow.Author.Tests.{lt-ltb, le-ltb, ltb-true, le-leb, eq-eqb, ne-eqb, eqb-true}
+use Rattle.words.specs.Lists.{allBelow}
+use Rattle.words.proofs.Parts.{getD-part}
+use Rattle.words.proofs.Tests.{and-left, and-right, and-both}
+use Rattle.slots.specs.Records.{foundNode, nodeOf, isNode}
+use Rattle.slots.specs.Regions.{generationAt, recordAt, nodeAt, orderAt}
+use Rattle.slots.specs.WordsRule.{WordsRule, wordsRule}
+use Rattle.slots.proofs.WordsRule.{words-rule-of, of-words-rule}
+use Rattle.slots.proofs.Lists.{allBelow-next, allBelow-not, allBelow-same}
+use Rattle.slots.specs.declared.Node.{Node}
+use Rattle.slots.specs.declared.NodeRecord.{NodeRecord}
+use Rattle.slots.specs.declared.Parent.{Parent}
+use Rattle.slots.specs.declared.Parent.the-variants.{None, Of}
+use Rattle.slots.specs.declared.NodeId.{NodeId}
+use Rattle.slots.specs.declared.Loaded.{Loaded}
+use Rattle.slots.specs.declared.Loaded.the-variants.{Found, NoNode}
+use Rattle.model.specs.Kinds.{Kind, Which, children, attributes, namespaces, isRoot}
+use Rattle.model.specs.Doc as model
+use Rattle.model.specs.Doc.{Doc, liveSlot, kindIn, parentIn, even, isSome, isNone, anyOption}
+use Rattle.model.specs.RulesTest as test
+use Rattle.model.specs.RulesTest.{implies, fitsField, allSlots, allLive, allWhich, wordsWithin, oneRoot, countsAndFieldsHold}
+use Rattle.model.proofs.Quantifiers.{slots-at, at-slots, implies-true, true-implies}
+use Rattle.memory.specs.declared.layout.Document.{Document}
+use Rattle.memory.specs.declared.layout.Limits as given
+use Rattle.memory.specs.declared.layout.Counts.{Counts}
+use Rattle.memory.specs.Layout.{limitsOf, entriesOf, arenaAt}
+use Rattle.memory.specs.Decode.{kindOf, handleOf, kindLoaded, parentLoaded, loadedAt, countsWithin, slotsPart, slotsMade, arenaPart, arenaUsed, arenaIn}
+use Rattle.memory.proofs.Columns.{length-gens, generation-in, kind-column, parent-in, order-in, generation-past}
+use Rattle.entries.proofs.Live.{live-found, live-none}
+use Rattle.entries.specs.Nodes.{noTexts, decodeNodes, liveAt}
+use Rattle.structure.specs.Tests.{fitsAt, capacitiesFit, arenasFit, rootStands, rootTest, onlyRoot}
+use Rattle.structure.proofs.Columns.{generation-word}
+use Rattle.structure.proofs.Lists.{both-ways}
+
+-- ---- the counts
+
+pub counts-hold : (l : given.Limits) (c : Counts) (both₁ both₂ both₃ both₄ both₅ both₆ both₇ both₈ both₉ : Bool)
+    → both₁ ≡ (leb (c .slots) (l .nodes) && leb (c .free) (l .nodes)) → both₂ ≡ (both₁ && leb (c .children) (l .children))
+    → both₃ ≡ (both₂ && leb (c .attributes) (l .attributes)) → both₄ ≡ (both₃ && leb (c .namespaces) (l .namespaces))
+    → both₅ ≡ (both₄ && leb (c .texts) (l .texts)) → both₆ ≡ (both₅ && leb (c .freetexts) (l .texts))
+    → both₇ ≡ (both₆ && leb (c .textbytes) (l .textbytes)) → both₈ ≡ (both₇ && leb (c .names) (l .names))
+    → both₉ ≡ (both₈ && leb (c .namebytes) (l .namebytes)) → both₉ ≡ countsWithin (limitsOf l) c
+unfolding countsWithin
+counts-hold l c b₁ b₂ b₃ b₄ b₅ b₆ b₇ b₈ b₉ e₁ e₂ e₃ e₄ e₅ e₆ e₇ e₈ e₉ =
+    e₉ ∙ rw (e₈, e₇, e₆, e₅, e₄, e₃, e₂, e₁)
+
+-- ---- the capacities of an arena
+
+module _ (d : Document) (w : Which) (mem : List ℕ) (start limit used : ℕ)
+    (s : start ≡ arenaAt (limitsOf (d .limits)) w) (l : limit ≡ limitsOf (d .limits) .entries w) (u : used ≡ arenaUsed d w) where
+  -- a word is the capacity that the document has there
+  capacity-word : (i : ℕ) → i < used → getD mem (start + limit + i) 0 ≡ getD (arenaIn d w mem .caps) i 0
+  capacity-word i h =
+      let e : start + limit + i ≡ arenaAt (limitsOf (d .limits)) w + (entriesOf (d .limits) w + i) = omega arith in
+      ap (λ (j : ℕ). getD mem j 0) e
+      ∙ sym (getD-part mem (arenaAt (limitsOf (d .limits)) w) (2 * entriesOf (d .limits) w) (entriesOf (d .limits) w + i) 0 (omega arith))
+      ∙ sym (getD-drop (entriesOf (d .limits) w) (arenaPart d w mem) i 0)
+
+  capacities-are : allBelow (fitsAt mem (start + limit)) used ≡ capacitiesFit (decodeNodes d mem) w
+  unfolding fitsAt capacitiesFit
+  capacities-are =
+      allBelow-same (λ i. fitsField (getD mem (start + limit + i) 0)) (λ i. fitsField (getD (arenaIn d w mem .caps) i 0)) used
+      (λ i h. ap fitsField (capacity-word i h))
+      ∙ ap (allBelow (λ i. fitsField (getD (arenaIn d w mem .caps) i 0))) u
+
+  module _ (i : ℕ) where
+    pub capacity-wide : i < used → 4294967296 ≤ getD mem (start + limit + i) 0 → false ≡ capacitiesFit (decodeNodes d mem) w
+    unfolding fitsAt
+    capacity-wide h g = sym (allBelow-not (fitsAt mem (start + limit)) used i h (le-ltb (getD mem (start + limit + i) 0) 4294967296 g)) ∙ capacities-are
+
+    pub capacities-all : i ≤ used → used ≤ i → allBelow (fitsAt mem (start + limit)) i ≡ true → true ≡ capacitiesFit (decodeNodes d mem) w
+    capacities-all a b h =
+        let e : i ≡ used = omega arith in
+        sym (rw e at h) ∙ capacities-are
+
+pub capacity-next : (mem : List ℕ) (start limit i : ℕ) → getD mem (start + limit + i) 0 < 4294967296 → allBelow (fitsAt mem (start + limit)) i ≡ true → allBelow (fitsAt mem (start + limit)) (i + 1) ≡ true
+unfolding fitsAt
+capacity-next mem start limit i g h = allBelow-next (fitsAt mem (start + limit)) i h (lt-ltb (getD mem (start + limit + i) 0) 4294967296 g)
+
+pub arenas-fit : (d : Document) (mem : List ℕ) (a b c p r : Bool) → a ≡ capacitiesFit (decodeNodes d mem) children → b ≡ capacitiesFit (decodeNodes d mem) attributes
+    → c ≡ capacitiesFit (decodeNodes d mem) namespaces → p ≡ (a && b) → r ≡ (p && c) → r ≡ arenasFit (decodeNodes d mem)
+unfolding arenasFit allWhich
+arenas-fit d mem a b c p r ea eb ec ep er = er ∙ rw (ep, ea, eb, ec)
+
+-- ---- the Root
+
+module _ (m : Node) where
+  pub top-none : (r : Bool) → r ≡ isRoot (kindOf (m .«data»)) → m .parent ≡ None → r ≡ (isRoot (kindOf (m .«data»)) && isNone (handleOf (m .parent)))
+  top-none r e q = e ∙ sym (ap (λ (x : Parent). isRoot (kindOf (m .«data»)) && isNone (handleOf x)) q ∙ and-true (isRoot (kindOf (m .«data»))))
+
+  pub top-some : (id : NodeId) → m .parent ≡ Of id → false ≡ (isRoot (kindOf (m .«data»)) && isNone (handleOf (m .parent)))
+  top-some id q = sym (ap (λ (x : Parent). isRoot (kindOf (m .«data»)) && isNone (handleOf x)) q ∙ and-false (isRoot (kindOf (m .«data»))))
+
+module _ (d : Document) (mem : List ℕ) where
+  abbrev doc : Doc
+  doc = decodeNodes d mem
+
+  pub root-none : (made : ℕ) → made ≡ slotsMade d → made ≡ 0 → false ≡ rootStands (decodeNodes d mem)
+  unfolding rootStands
+  root-none made e z = sym (rw (generation-past noTexts [] true d mem 0 (omega arith)))
+
+  module _ (made : ℕ) (e : made ≡ slotsMade d) (some-made : made ≡ 0 → ⊥) (g : ℕ) (q : g ≡ generationAt (d .limits .nodes) (slotsPart d mem) 0) where
+    first : 0 < slotsMade d
+    first = omega arith
+
+    pub root-old : (g ≡ 0 → ⊥) → false ≡ rootStands (decodeNodes d mem)
+    unfolding rootStands
+    root-old n = sym (rw (generation-in noTexts [] true d mem 0 first, ← q, ne-eqb g 0 n))
+
+    module _ (z : g ≡ 0) (l : Loaded) (f : l ≡ loadedAt (d .limits .nodes) (slotsPart d mem) 0) where
+      pub root-found : (m : Node) (r : Bool) → l ≡ Found m → r ≡ (isRoot (kindOf (m .«data»)) && isNone (handleOf (m .parent))) → r ≡ rootStands (decodeNodes d mem)
+      unfolding rootStands
+      root-found m r h k =
+          let v : model.generationAt doc 0 ≡ 0 = generation-in noTexts [] true d mem 0 first ∙ sym q ∙ z in
+          let a : getD (doc .kinds) 0 none ≡ some (kindOf (m .«data»)) = kind-column noTexts [] true d mem 0 first ∙ ap kindLoaded (sym f ∙ h) in
+          let b : parentIn doc 0 ≡ handleOf (m .parent) = parent-in noTexts [] true d mem 0 first ∙ ap parentLoaded (sym f ∙ h) in
+          k ∙ sym (rw (v, a, b))
+
+      pub root-no-node : l ≡ NoNode → false ≡ rootStands (decodeNodes d mem)
+      unfolding rootStands
+      root-no-node h =
+          let a : getD (doc .kinds) 0 none ≡ none = kind-column noTexts [] true d mem 0 first ∙ ap kindLoaded (sym f ∙ h) in
+          sym (rw (a, and-false (eqb (model.generationAt doc 0) 0)))
+
+  -- ---- the only Root
+
+  root-anywhere : (a b : Bool) → implies a (implies b true) ≡ true
+  root-anywhere true true = refl
+  root-anywhere true false = refl
+  root-anywhere false b = refl
+
+  root-nowhere : (b : Bool) → implies b false ≡ not b
+  root-nowhere true = refl
+  root-nowhere false = refl
+
+  module _ (i : ℕ) where
+    pub root-first : i ≡ 0 → true ≡ rootTest (decodeNodes d mem) i
+    unfolding rootTest
+    root-first e = sym (rw (eq-eqb i 0 e) (root-anywhere (liveSlot doc i) (isRoot (kindIn doc i))))
+
+    module _ (h : i < slotsMade d) (l : Loaded) (e : l ≡ liveAt d mem i) where
+      pub no-other-root : (i ≡ 0 → ⊥) → (m : Node) (t : Bool) → l ≡ Found m → t ≡ isRoot (kindOf (m .«data»)) → not t ≡ rootTest (decodeNodes d mem) i
+      unfolding rootTest
+      no-other-root n m t q k =
+          let v = live-found d mem i noTexts [] true h m (sym e ∙ q) in
+          sym (rw (v .live, v .kind, ← k, ne-eqb i 0 n) (root-nowhere t))
+
+      pub no-root : l ≡ NoNode → true ≡ rootTest (decodeNodes d mem) i
+      unfolding rootTest
+      no-root q = sym (rw (live-none d mem i noTexts [] true h (sym e ∙ q)))
+
+  pub all-roots : allBelow (rootTest (decodeNodes d mem)) (slotsMade d) ≡ onlyRoot (decodeNodes d mem)
+  unfolding rootTest onlyRoot allLive
+  all-roots = ap (allBelow (rootTest doc)) (sym (length-gens noTexts [] true d mem))
+
+-- ---- the words of the slots
+
+node-some : (r : NodeRecord) → isSome (kindLoaded (nodeOf r)) ≡ isNode r
+unfolding nodeOf
+node-some r = go (isNode r)
+  where
+    go : (t : Bool) → isSome (kindLoaded (cond t (Found (foundNode r)) NoNode)) ≡ t
+    go true = refl
+    go false = refl
+
+module _ (d : Document) (mem : List ℕ) where
+  abbrev n : ℕ
+  n = d .limits .nodes
+
+  abbrev words : List ℕ
+  words = slotsPart d mem
+
+  abbrev nodes : Doc
+  nodes = decodeNodes d mem
+
+  -- a slot whose generation fits holds a node exactly where its record is one
+  kind-there : (i : ℕ) → i < slotsMade d → generationAt n words i < 4294967296 → isSome (getD (nodes .kinds) i none) ≡ isNode (recordAt n words i)
+  unfolding nodeAt
+  kind-there i h g =
+      ap isSome (kind-column noTexts [] true d mem i h)
+      ∙ rw (lt-ltb (generationAt n words i) 4294967296 g) (node-some (recordAt n words i))
+
+  abbrev slotsHold : Bool
+  slotsHold =
+      allSlots nodes (λ i. fitsField (getD (nodes .gens) i 0))
+      && allSlots nodes (λ i. implies (even (model.generationAt nodes i)) (isSome (getD (nodes .kinds) i none)))
+      && allSlots nodes (λ i. fitsField (getD (nodes .order) i 0))
+
+  below-made : (i : ℕ) → i < length (nodes .gens) → i < slotsMade d
+  below-made i b = rw (length-gens noTexts [] true d mem) at b
+
+  made-below : (i : ℕ) → i < slotsMade d → i < length (nodes .gens)
+  made-below i b = rw (length-gens noTexts [] true d mem) b
+
+  words-hold : wordsRule n words (slotsMade d) ≡ true → slotsHold ≡ true
+  words-hold e =
+      let r = words-rule-of n words (slotsMade d) e in
+      rw (
+        at-slots nodes (λ i. fitsField (getD (nodes .gens) i 0)) (λ i b.
+            lt-ltb (getD (nodes .gens) i 0) 4294967296 (rw (generation-word noTexts [] true d mem i (below-made i b)) (r .generation i (below-made i b)))),
+        at-slots nodes (λ i. implies (even (model.generationAt nodes i)) (isSome (getD (nodes .kinds) i none))) (λ i b.
+            true-implies (even (model.generationAt nodes i)) (isSome (getD (nodes .kinds) i none)) (λ v.
+            kind-there i (below-made i b) (r .generation i (below-made i b))
+            ∙ r .node i (below-made i b)
+            (eqb-true (generationAt n words i % 2) 0 (rw (generation-in noTexts [] true d mem i (below-made i b)) at v)))),
+        at-slots nodes (λ i. fitsField (getD (nodes .order) i 0)) (λ i b.
+            let h = below-made i b in
+            lt-ltb (getD (nodes .order) i 0) 4294967296 (rw (order-in noTexts [] true d mem i (omega arith)) (r .order i h))),
+      )
+
+  hold-words : slotsHold ≡ true → wordsRule n words (slotsMade d) ≡ true
+  hold-words e = of-words-rule n words (slotsMade d) (record {
+    generation = narrow;
+    order = λ i h.
+        rw (order-in noTexts [] true d mem i (omega arith)) at (ltb-true (getD (nodes .order) i 0) 4294967296
+        (slots-at nodes (λ i. fitsField (getD (nodes .order) i 0)) (search (and-left, and-right)) i (made-below i h)));
+    node = λ i h v.
+        sym (kind-there i h (narrow i h))
+        ∙ implies-true (even (model.generationAt nodes i)) (isSome (getD (nodes .kinds) i none))
+        (slots-at nodes (λ i. implies (even (model.generationAt nodes i)) (isSome (getD (nodes .kinds) i none))) (search (and-left, and-right)) i (made-below i h))
+        (rw (generation-in noTexts [] true d mem i h) (eq-eqb (generationAt n words i % 2) 0 v));
+  })
+    where
+      narrow : (i : ℕ) → i < slotsMade d → generationAt n words i < 4294967296
+      narrow i h =
+          rw (generation-word noTexts [] true d mem i h) at (ltb-true (getD (nodes .gens) i 0) 4294967296
+          (slots-at nodes (λ i. fitsField (getD (nodes .gens) i 0)) (search (and-left, and-right)) i (made-below i h)))
+
+  -- ---- the rule
+
+  counts-same : countsWithin (limitsOf (d .limits)) (d .counts) ≡ test.countsWithin nodes
+  unfolding test.countsWithin
+  counts-same =
+      sym (rw (
+        le-leb (length (nodes .gens)) n (omega (arith, length-gens noTexts [] true d mem)),
+        le-leb 0 (d .limits .texts) (omega arith),
+        le-leb 0 (d .limits .textbytes) (omega arith),
+        le-leb 0 (d .limits .names) (omega arith),
+        le-leb 0 (d .limits .namebytes) (omega arith),
+      )
+      (and-true _ ∙ and-true _ ∙ and-true _ ∙ and-true _ ∙ and-true _))
+
+  words-same : (wordsRule n words (slotsMade d) && arenasFit nodes) ≡ wordsWithin nodes
+  unfolding wordsWithin arenasFit capacitiesFit
+  words-same = ap (λ (t : Bool). t && arenasFit nodes) (both-ways (wordsRule n words (slotsMade d)) slotsHold words-hold hold-words)
+
+  root-same : (rootStands nodes && onlyRoot nodes) ≡ oneRoot nodes
+  unfolding rootStands onlyRoot oneRoot
+  root-same = refl
+
+  pub fields-hold : (counts slots arenas stands only a b c r : Bool) → counts ≡ countsWithin (limitsOf (d .limits)) (d .counts)
+      → slots ≡ wordsRule (d .limits .nodes) (slotsPart d mem) (slotsMade d) → arenas ≡ arenasFit (decodeNodes d mem) → a ≡ (slots && arenas)
+      → stands ≡ rootStands (decodeNodes d mem) → only ≡ onlyRoot (decodeNodes d mem) → b ≡ (stands && only) → c ≡ (counts && a) → r ≡ (c && b)
+      → r ≡ countsAndFieldsHold (decodeNodes d mem)
+  unfolding countsAndFieldsHold
+  fields-hold counts slots arenas stands only a b c r ec es ea qa et eo qb qc qr =
+      qr
+      ∙ ap₂ _&&_ (qc ∙ ap₂ _&&_ (ec ∙ counts-same) (qa ∙ ap₂ _&&_ es ea ∙ words-same)) (qb ∙ ap₂ _&&_ et eo ∙ root-same)

@@ -1,0 +1,9 @@
+pub mod Columns
+pub mod Lists
+pub mod Owners
+pub mod FreeStacks
+pub mod CountsAndFields
+pub mod Claimed
+pub mod RootElement
+pub mod TextsShown
+pub mod Together

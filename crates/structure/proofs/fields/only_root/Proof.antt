@@ -1,0 +1,69 @@
+-- `structure::fields::only_root` meets its contract.
+-- Assumes nothing.
+use mathlib.Core.Path.{_≡_, refl, sym, ap, _∙_}
+use mathlib.Core.Bool.{true}
+use Prim.Native.Nat.{_-_, _≤_}
+use native.Mathlib.Omega.{arith}
+use Rattle.words.specs.Lists.{allBelow}
+use Rattle.memory.specs.Decode.{slotsMade}
+use Rattle.entries.specs.Nodes.{decodeNodes}
+use Rattle.structure.specs.Tests.{rootTest}
+use Rattle.structure.proofs.Lists.{below-next, below-not, below-all}
+use Rattle.structure.proofs.CountsAndFields.{all-roots}
+use Rattle.structure.proofs.fields.only_root.Statement.{statement}
+use Rattle.structure.proofs.fields.only_root.Tie as tie
+
+abbrev Inv-loop : tie.InvT-loop
+Inv-loop d mem count s₀ s = (s ≤ count) × (allBelow (rootTest (decodeNodes d mem)) s ≡ true)
+
+abbrev μ-loop : tie.MeasureT-loop
+μ-loop d mem count s₀ s = count - s
+
+made-requires : tie.Need-made-requires Inv-loop μ-loop
+made-requires c κs = tt
+
+loop-holds : tie.Need-loop-holds Inv-loop μ-loop
+loop-holds c = (omega arith, refl)
+
+slot-root-requires : tie.Need-slot-root-requires Inv-loop μ-loop
+slot-root-requires c κs = (c .before .before .before .before .pre, omega (arith, c .before .before .made .ensures))
+
+returns : tie.Need-returns Inv-loop μ-loop
+returns c =
+    let a = c .before .before .before .before .before .before .args in
+    below-not (rootTest (decodeNodes (a .d) (a .mem .now))) (slotsMade (a .d)) _ (all-roots (a .d) (a .mem .now)) _ (c .before .before .before .before .made .ensures)
+    _ (c .before .before .loop-test .taken) _ (c .before .slot-root .ensures) (c .if1 .taken)
+
+add-s : tie.Need-add-s Inv-loop μ-loop
+add-s c = omega arith
+
+loop-less : tie.Need-loop-less Inv-loop μ-loop
+loop-less c = omega arith
+
+loop-again : tie.Need-loop-again Inv-loop μ-loop
+loop-again c =
+    let a = c .before .before .before .before .before .before .args in (
+      omega arith,
+      below-next (rootTest (decodeNodes (a .d) (a .mem .now))) _ _ (c .before .before .before .loop .inv .1) (c .before .slot-root .ensures) (c .if1 .left),
+    )
+
+returns-2 : tie.Need-returns-2 Inv-loop μ-loop
+returns-2 c =
+    let a = c .before .before .before .before .args in
+    below-all (rootTest (decodeNodes (a .d) (a .mem .now))) (slotsMade (a .d)) _ (all-roots (a .d) (a .mem .now)) _ (c .before .before .made .ensures)
+    _ (c .before .loop .inv .0) (c .loop-test .left) (c .before .loop .inv .1)
+
+pub only-root-spec : {M : Type 1} → statement M
+only-root-spec =
+    tie.close
+    (tie.spec
+    Inv-loop
+    μ-loop
+    made-requires
+    loop-holds
+    slot-root-requires
+    returns
+    add-s
+    loop-less
+    loop-again
+    returns-2)

@@ -1,0 +1,65 @@
+-- What is tested of one slot, one entry or one arena, where a rule's test names a test of all of them.
+use mathlib.Core.Bool.{Bool, _&&_}
+use mathlib.Core.Option.{Option, none, some}
+use mathlib.Core.List.{List}
+use Prim.Native.Nat.{ℕ, _+_}
+use lib.ListN.{length, getD}
+use lib.Dec.{eqb}
+use Rattle.words.specs.Lists.{allBelow}
+use Rattle.blocks.specs.Claims.{allClaimable}
+use Rattle.model.specs.Kinds.{Kind, Which, children, sameWhich, isElement, isRoot, owns, whichOf}
+use Rattle.model.specs.Doc.{Doc, generationAt, liveSlot, resolves, kindIn, kindAt, parentIn, isNone, anyOption}
+use Rattle.model.specs.Rules.{blockIn}
+use Rattle.model.specs.RulesTest.{implies, fitsField, allWhich, allLive, countsAndFieldsHold, freeListHolds, parentHolds, parentsHold, entriesHold, blocksHold, parentsEndHolds, oneRootElementHolds}
+
+-- ---- rule 1
+
+-- the word at an index counted from `at`
+unfoldable pub fitsAt : List ℕ → ℕ → ℕ → Bool
+fitsAt mem at i = fitsField (getD mem (at + i) 0)
+
+-- the capacities of an arena, and of all three
+unfoldable pub capacitiesFit : Doc → Which → Bool
+capacitiesFit D w = allBelow (λ i. fitsField (getD (D .arenas w .caps) i 0)) (D .arenas w .used)
+
+unfoldable pub arenasFit : Doc → Bool
+arenasFit D = allWhich (capacitiesFit D)
+
+-- "Slot 0 is .. Root: generation 0, no parent"
+unfoldable pub rootStands : Doc → Bool
+rootStands D = eqb (generationAt D 0) 0 && anyOption isRoot (getD (D .kinds) 0 none) && isNone (parentIn D 0)
+
+-- "the only live Root"
+unfoldable pub rootTest : Doc → ℕ → Bool
+rootTest D i = implies (liveSlot D i) (implies (isRoot (kindIn D i)) (eqb i 0))
+
+unfoldable pub onlyRoot : Doc → Bool
+onlyRoot D = allLive D (λ i. implies (isRoot (kindIn D i)) (eqb i 0))
+
+-- ---- rule 3
+
+-- the parent of a node of this kind
+abbrev pub parentFits : Doc → Kind ℕ (Option ℕ) → Option ℕ → Bool
+parentFits D k none = sameWhich (whichOf k) children
+parentFits D k (some p) = resolves D p && owns (whichOf k) (kindAt D p)
+
+unfoldable pub parentTest : Doc → ℕ → Bool
+parentTest D i = implies (liveSlot D i) (parentHolds D i (parentIn D i))
+
+-- ---- rule 5
+
+-- the claims of an arena's blocks are met, one after another
+unfoldable pub claimsMet : Doc → Which → Bool
+claimsMet D w = allClaimable (D .arenas w) (blockIn D w) (length (D .gens))
+
+-- ---- rule 7
+
+-- an entry's handle, stale or not
+unfoldable pub elementTest : Doc → ℕ → Bool
+elementTest D h = isElement (kindAt D h)
+
+-- ---- the rules that read the nodes: all but rule 8
+
+unfoldable pub nodeRulesHold : Doc → Bool
+nodeRulesHold D =
+    countsAndFieldsHold D && freeListHolds D && parentsHold D && entriesHold D && blocksHold D && parentsEndHolds D && oneRootElementHolds D

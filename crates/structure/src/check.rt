@@ -1,0 +1,126 @@
+// The rules together, each where those that it relies on hold.
+ghost use mathlib.Core.Path.{_≡_};
+ghost use mathlib.Core.Bool.{true, _&&_};
+ghost use Prim.Native.Nat.{_≤_};
+ghost use lib.ListN.{length, replicate};
+ghost use Rattle.model.specs.RulesTest.{countsAndFieldsHold, freeListHolds, parentsHold, entriesHold, blocksHold, parentsEndHolds, oneRootElementHolds, textsHold, rulesHold};
+ghost use Rattle.memory.specs.Layout.{limitsOf, memoryOk, buffersOk};
+ghost use Rattle.memory.specs.Decode.{countsWithin, slotsMade, decode};
+ghost use Rattle.entries.specs.Nodes.{decodeNodes};
+ghost use Rattle.structure.specs.Tests.{nodeRulesHold};
+use crate::arenas::check_blocks;
+use crate::fields::check_fields;
+use crate::free::check_free_list;
+use crate::parents::check_parents;
+use crate::root::check_root_element;
+use entries::node_lists::check_entries;
+use entries::node_paths::check_paths;
+use entries::node_texts::check_texts;
+use memory::layout::Document;
+use memory::read::made;
+
+// Rules 1, 2 and 3, which read the slots.
+fn check_slots(d: Document, mem: &[u64], scratch: &mut [u64]) -> bool
+    requires { ⌜ buffersOk d (length (now mem)) (length (now scratch)) ≡ true ⌝ }
+    ensures { λ r. ⌜ r ≡ (countsAndFieldsHold (decodeNodes d (now (mem .entry))) && freeListHolds (decodeNodes d (now (mem .entry))) && parentsHold (decodeNodes d (now (mem .entry)))) ⌝ }
+{
+    if !check_fields(d, mem) {
+        return false;
+    }
+    let count = made(d);
+    if !check_free_list(d, mem, &mut scratch[0..count]) {
+        return false;
+    }
+    check_parents(d, mem)
+}
+
+// Rules 5 and 7, which read the arenas, where rule 1 holds.
+fn check_arenas(d: Document, mem: &[u64], scratch: &mut [u64]) -> bool
+    requires { ⌜ (buffersOk d (length (now mem)) (length (now scratch)) ≡ true) × (countsAndFieldsHold (decodeNodes d (now mem)) ≡ true) ⌝ }
+    ensures { λ r. ⌜ r ≡ (blocksHold (decodeNodes d (now (mem .entry))) && oneRootElementHolds (decodeNodes d (now (mem .entry)))) ⌝ }
+{
+    if !check_blocks(d, mem, scratch) {
+        return false;
+    }
+    check_root_element(d, mem)
+}
+
+// Rule 4, where rules 3 and 5 hold. Marks has a word for each slot made.
+fn check_listed(d: Document, mem: &[u64], marks: &mut [u64]) -> bool
+    requires { ⌜ (memoryOk d (length (now mem)) ≡ true) × (parentsHold (decodeNodes d (now mem)) ≡ true) × (blocksHold (decodeNodes d (now mem)) ≡ true) ⌝ }
+    requires { ⌜ slotsMade d ≤ length (now marks) ⌝ }
+    ensures { λ r. ⌜ r ≡ entriesHold (decodeNodes d (now (mem .entry))) ⌝ }
+{
+    words::clear(marks);
+    check_entries(d, mem, marks)
+}
+
+// Rule 6, where rule 3 holds. Marks has a word for each slot made.
+fn check_ends(d: Document, mem: &[u64], marks: &mut [u64]) -> bool
+    requires { ⌜ (memoryOk d (length (now mem)) ≡ true) × (parentsHold (decodeNodes d (now mem)) ≡ true) ⌝ }
+    requires { ⌜ slotsMade d ≤ length (now marks) ⌝ }
+    ensures { λ r. ⌜ r ≡ parentsEndHolds (decodeNodes d (now (mem .entry))) ⌝ }
+{
+    words::clear(marks);
+    check_paths(d, mem, marks)
+}
+
+// Rules 4 and 6, which follow the links between nodes, where rules 3 and 5 hold.
+fn check_links(d: Document, mem: &[u64], scratch: &mut [u64]) -> bool
+    requires { ⌜ (buffersOk d (length (now mem)) (length (now scratch)) ≡ true) × (parentsHold (decodeNodes d (now mem)) ≡ true) × (blocksHold (decodeNodes d (now mem)) ≡ true) ⌝ }
+    ensures { λ r. ⌜ r ≡ (entriesHold (decodeNodes d (now (mem .entry))) && parentsEndHolds (decodeNodes d (now (mem .entry)))) ⌝ }
+{
+    let count = made(d);
+    if !check_listed(d, mem, &mut scratch[0..count]) {
+        return false;
+    }
+    check_ends(d, mem, &mut scratch[0..count])
+}
+
+// Rules 1 to 7.
+fn check_nodes(d: Document, mem: &[u64], scratch: &mut [u64]) -> bool
+    requires { ⌜ buffersOk d (length (now mem)) (length (now scratch)) ≡ true ⌝ }
+    ensures { λ r. ⌜ r ≡ nodeRulesHold (decodeNodes d (now (mem .entry))) ⌝ }
+{
+    if !check_slots(d, mem, scratch) {
+        return false;
+    }
+    if !check_arenas(d, mem, scratch) {
+        return false;
+    }
+    check_links(d, mem, scratch)
+}
+
+// Rule 8, where rule 1 holds. Marks has a word for each text slot that the limit allows.
+fn check_pool(d: Document, mem: &[u64], marks: &mut [u64]) -> bool
+    requires { ⌜ (memoryOk d (length (now mem)) ≡ true) × (countsWithin (limitsOf (d .limits)) (d .counts) ≡ true) ⌝ }
+    requires { ⌜ d .limits .texts ≤ length (now marks) ⌝ }
+    ensures { λ r. ⌜ r ≡ textsHold (decode d (now (mem .entry))) ⌝ }
+{
+    words::clear(marks);
+    check_texts(d, mem, marks)
+}
+
+// All eight rules.
+fn check_rules(d: Document, mem: &[u64], scratch: &mut [u64]) -> bool
+    requires { ⌜ buffersOk d (length (now mem)) (length (now scratch)) ≡ true ⌝ }
+    ensures { λ r. ⌜ r ≡ rulesHold (decode d (now (mem .entry))) ⌝ }
+{
+    if !check_nodes(d, mem, scratch) {
+        return false;
+    }
+    let l = d.limits;
+    let end = l.texts;
+    check_pool(d, mem, &mut scratch[0..end])
+}
+
+// Whether the structure rules hold: Damaged is answered exactly where they do not. Scratch may hold anything, and is all zero after.
+pub fn check_structure(d: Document, mem: &[u64], scratch: &mut [u64]) -> bool
+    requires { ⌜ buffersOk d (length (now mem)) (length (now scratch)) ≡ true ⌝ }
+    ensures { λ r. ⌜ r ≡ rulesHold (decode d (now (mem .entry))) ⌝ }
+    ensures { λ _. ⌜ now (scratch .exit) ≡ replicate (length (now (scratch .entry))) 0 ⌝ }
+{
+    let holds = check_rules(d, mem, scratch);
+    words::clear(scratch);
+    holds
+}

@@ -1,0 +1,162 @@
+// Rule 1: "Counts are within limits, words within their fields. Slot 0 is the only live Root: generation 0, no parent."
+ghost use mathlib.Core.Path.{_≡_};
+ghost use mathlib.Core.Bool.{true, _&&_};
+ghost use Prim.Native.Nat.{_<_};
+ghost use lib.ListN.{length};
+ghost use Rattle.slots.specs.WordsRule.{wordsRule};
+ghost use Rattle.model.specs.Kinds.{isRoot};
+ghost use Rattle.model.specs.Doc.{isNone};
+ghost use Rattle.model.specs.RulesTest.{wordsWithin, oneRoot, countsAndFieldsHold};
+ghost use Rattle.memory.specs.Layout.{limitsOf, whichOf, memoryOk};
+ghost use Rattle.memory.specs.Decode.{kindOf, handleOf, countsWithin, slotsPart, slotsMade};
+ghost use Rattle.entries.specs.Nodes.{decodeNodes};
+ghost use Rattle.structure.specs.Tests.{capacitiesFit, arenasFit, rootStands, rootTest, onlyRoot};
+use crate::node::is_root;
+use crate::node::live_node;
+use memory::layout::Arena;
+use memory::layout::Counts;
+use memory::layout::Document;
+use memory::layout::Limits;
+use memory::layout::arena_at;
+use memory::layout::arena_limit;
+use memory::read::arena_used;
+use memory::read::generation;
+use memory::read::load;
+use memory::read::made;
+use slots::Loaded;
+use slots::Node;
+use slots::NodeSlot;
+use slots::Parent;
+
+// A call in place of &&: no branch stands between the tests.
+fn both(a: bool, b: bool) -> bool
+    ensures { λ r. ⌜ r ≡ (a && b) ⌝ }
+{
+    if a { b } else { false }
+}
+
+fn counts_within(l: Limits, c: Counts) -> bool
+    ensures { λ r. ⌜ r ≡ countsWithin (limitsOf l) c ⌝ }
+{
+    let slots = both(c.slots <= l.nodes, c.free <= l.nodes);
+    let children = both(slots, c.children <= l.children);
+    let attributes = both(children, c.attributes <= l.attributes);
+    let arenas = both(attributes, c.namespaces <= l.namespaces);
+    let texts = both(both(arenas, c.texts <= l.texts), c.freetexts <= l.texts);
+    let pool = both(texts, c.textbytes <= l.textbytes);
+    both(both(pool, c.names <= l.names), c.namebytes <= l.namebytes)
+}
+
+// Whether the words of the slots made are within their fields.
+fn slots_fit(d: Document, mem: &[u64]) -> bool
+    requires { ⌜ memoryOk d (length (now mem)) ≡ true ⌝ }
+    ensures { λ r. ⌜ r ≡ wordsRule (d .limits .nodes) (slotsPart d (now (mem .entry))) (slotsMade d) ⌝ }
+{
+    let l = d.limits;
+    let n = l.nodes;
+    let end = 15 * n;
+    slots::rule::check_words(&mem[0..end], n, made(d))
+}
+
+// Whether the capacities of an arena's entries in use are within their fields.
+fn capacities_fit(d: Document, mem: &[u64], arena: Arena) -> bool
+    requires { ⌜ memoryOk d (length (now mem)) ≡ true ⌝ }
+    ensures { λ r. ⌜ r ≡ capacitiesFit (decodeNodes d (now (mem .entry))) (whichOf arena) ⌝ }
+{
+    let start = arena_at(d.limits, arena);
+    let limit = arena_limit(d.limits, arena);
+    let used = arena_used(d, arena);
+    let mut i = 0;
+    while i < used {
+        if mem[start + limit + i] >= 4294967296 {
+            return false;
+        }
+        i += 1;
+    }
+    true
+}
+
+fn arenas_fit(d: Document, mem: &[u64]) -> bool
+    requires { ⌜ memoryOk d (length (now mem)) ≡ true ⌝ }
+    ensures { λ r. ⌜ r ≡ arenasFit (decodeNodes d (now (mem .entry))) ⌝ }
+{
+    let children = capacities_fit(d, mem, Arena::Children);
+    let attributes = capacities_fit(d, mem, Arena::Attributes);
+    let namespaces = capacities_fit(d, mem, Arena::Namespaces);
+    both(both(children, attributes), namespaces)
+}
+
+// A Root without a parent.
+fn is_top(node: Node) -> bool
+    ensures { λ r. ⌜ r ≡ (isRoot (kindOf (node .«data»)) && isNone (handleOf (node .parent))) ⌝ }
+{
+    let data = node.data;
+    let parent = node.parent;
+    match parent {
+        Parent::None => is_root(data),
+        Parent::Of(_) => false,
+    }
+}
+
+// Whether slot 0 is a live Root of generation 0 without a parent.
+fn root_stands(d: Document, mem: &[u64]) -> bool
+    requires { ⌜ memoryOk d (length (now mem)) ≡ true ⌝ }
+    ensures { λ r. ⌜ r ≡ rootStands (decodeNodes d (now (mem .entry))) ⌝ }
+{
+    if made(d) == 0 {
+        return false;
+    }
+    let slot = NodeSlot(0);
+    if generation(d, mem, slot) != 0 {
+        return false;
+    }
+    let found = load(d, mem, slot);
+    match found {
+        Loaded::Found(node) => is_top(node),
+        Loaded::NoNode => false,
+    }
+}
+
+// A live Root stands in slot 0.
+fn slot_root(d: Document, mem: &[u64], s: usize) -> bool
+    requires { ⌜ (memoryOk d (length (now mem)) ≡ true) × (s < slotsMade d) ⌝ }
+    ensures { λ r. ⌜ r ≡ rootTest (decodeNodes d (now (mem .entry))) s ⌝ }
+{
+    if s == 0 {
+        return true;
+    }
+    let found = live_node(d, mem, s);
+    match found {
+        Loaded::Found(node) => {
+            let data = node.data;
+            !is_root(data)
+        }
+        Loaded::NoNode => true,
+    }
+}
+
+fn only_root(d: Document, mem: &[u64]) -> bool
+    requires { ⌜ memoryOk d (length (now mem)) ≡ true ⌝ }
+    ensures { λ r. ⌜ r ≡ onlyRoot (decodeNodes d (now (mem .entry))) ⌝ }
+{
+    let count = made(d);
+    let mut s = 0;
+    while s < count {
+        if !slot_root(d, mem, s) {
+            return false;
+        }
+        s += 1;
+    }
+    true
+}
+
+// Whether rule 1 holds, but for the numbers of texts and names.
+pub fn check_fields(d: Document, mem: &[u64]) -> bool
+    requires { ⌜ memoryOk d (length (now mem)) ≡ true ⌝ }
+    ensures { λ r. ⌜ r ≡ countsAndFieldsHold (decodeNodes d (now (mem .entry))) ⌝ }
+{
+    let counts = counts_within(d.limits, d.counts);
+    let words = both(slots_fit(d, mem), arenas_fit(d, mem));
+    let root = both(root_stands(d, mem), only_root(d, mem));
+    both(both(counts, words), root)
+}
