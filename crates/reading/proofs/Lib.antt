@@ -1,0 +1,7 @@
+pub mod Lists
+pub mod Found
+pub mod Listed
+pub mod Keyed
+pub mod Elements
+pub mod Live
+pub mod Texts

@@ -1,0 +1,63 @@
+// The root node's handle, and the position of a node in document order.
+ghost use mathlib.Core.Path.{_≡_};
+ghost use mathlib.Core.Bool.{true, cond};
+ghost use Prim.Native.Nat.{_<_};
+ghost use lib.ListN.{length};
+ghost use Rattle.slots.specs.Handles.{wordOf};
+ghost use Rattle.slots.specs.Regions.{orderAt};
+ghost use Rattle.model.specs.Calls.{key, keyOf, refused, root-of, order-key};
+ghost use Rattle.memory.specs.Layout.{memoryOk};
+ghost use Rattle.memory.specs.Decode.{slotsPart};
+ghost use Rattle.reading.specs.Answers.{ofRoot, ofKey};
+ghost use Rattle.reading.specs.Contract.{reads};
+use crate::answers::KeyAnswer;
+use crate::answers::RootAnswer;
+use memory::layout::Document;
+use model::Refusal;
+use slots::Loaded;
+use slots::NodeId;
+use slots::NodeSlot;
+use slots::OrderKey;
+
+// Rules out another handle than (0, 0), and one where the memory is too short.
+pub fn root(d: Document, mem: &[u64]) -> RootAnswer
+    ensures { λ r. ⌜ ofRoot r ≡ reads root-of d (now (mem .entry)) ⌝ }
+{
+    if memory::layout::memory_ok(d, mem.len()) {
+        RootAnswer::Root(NodeId {
+            index: 0,
+            generation: 0,
+        })
+    } else {
+        RootAnswer::Refused(Refusal::BadBuffers)
+    }
+}
+
+// The key of a live node's slot: an order that is not current has none to show.
+fn live_key(d: Document, mem: &[u64], slot: NodeSlot) -> KeyAnswer
+    requires { ⌜ (memoryOk d (length (now mem)) ≡ true) × (slot .0 < d .limits .nodes) ⌝ }
+    ensures { λ r. ⌜ ofKey r ≡ cond (d .current) (key (keyOf (orderAt (d .limits .nodes) (slotsPart d (now (mem .entry))) (slot .0)))) (refused 15) ⌝ }
+{
+    if d.current {
+        match memory::read::order_key(d, mem, slot) {
+            OrderKey::None => KeyAnswer::Nothing,
+            OrderKey::At(n) => KeyAnswer::At(n),
+        }
+    } else {
+        KeyAnswer::Refused(Refusal::OrderStale)
+    }
+}
+
+// Rules out an old key while the order is not current, and OrderStale for a stale handle.
+pub fn order_key(d: Document, mem: &[u64], id: NodeId) -> KeyAnswer
+    ensures { λ r. ⌜ ofKey r ≡ reads (order-key (wordOf id)) d (now (mem .entry)) ⌝ }
+{
+    if memory::layout::memory_ok(d, mem.len()) {
+        match memory::read::resolve(d, mem, id) {
+            Loaded::Found(_) => live_key(d, mem, NodeSlot(id.index)),
+            Loaded::NoNode => KeyAnswer::Nothing,
+        }
+    } else {
+        KeyAnswer::Refused(Refusal::BadBuffers)
+    }
+}

@@ -1,0 +1,94 @@
+// What the calls share once test 4 has passed: the block and the element that are shown.
+ghost use mathlib.Core.Path.{_≡_};
+ghost use mathlib.Core.Bool.{true, cond};
+ghost use Prim.Native.Nat.{_+_, _≤_};
+ghost use lib.ListN.{length};
+ghost use lib.Dec.{leb};
+ghost use Rattle.words.specs.Lists.{find};
+ghost use Rattle.blocks.specs.Arena.{block, listOf};
+ghost use Rattle.slots.specs.Handles.{wordOf};
+ghost use Rattle.model.specs.Kinds.{children, isElement};
+ghost use Rattle.model.specs.Doc.{shownBlock, showsElement};
+ghost use Rattle.model.specs.Calls.{node};
+ghost use Rattle.memory.specs.Layout.{whichOf, entriesOf, memoryOk};
+ghost use Rattle.memory.specs.Decode.{kindOf, blockOf, arenaIn, decode};
+ghost use Rattle.reading.specs.Answers.{ofNode};
+use crate::answers::NodeAnswer;
+use memory::layout::Arena;
+use memory::layout::Document;
+use slots::Loaded;
+use slots::NodeData;
+use slots::NodeId;
+use slots::Range;
+
+// A block, or an empty one where it lies outside an arena of this length.
+fn within(range: Range, used: usize) -> Range
+    ensures { λ r. ⌜ blockOf r ≡ cond (leb (range .start + range .len) used) (blockOf range) (block 0 0) ⌝ }
+{
+    if range.start as usize + range.len as usize <= used {
+        range
+    } else {
+        Range { start: 0, len: 0 }
+    }
+}
+
+// The block of a node's list as it is shown: attributes and namespaces only of an element.
+pub fn shown_block(d: Document, mem: &[u64], id: NodeId, arena: Arena) -> Range
+    requires { ⌜ memoryOk d (length (now mem)) ≡ true ⌝ }
+    ensures { λ r. ⌜ blockOf r ≡ shownBlock (decode d (now (mem .entry))) (whichOf arena) (wordOf id) ⌝ }
+{
+    match memory::read::resolve(d, mem, id) {
+        Loaded::Found(node) => within(
+            memory::read::range_of(node, arena),
+            memory::read::arena_used(d, arena),
+        ),
+        Loaded::NoNode => Range { start: 0, len: 0 },
+    }
+}
+
+fn element(data: NodeData) -> bool
+    ensures { λ r. ⌜ r ≡ isElement (kindOf «data») ⌝ }
+{
+    match data {
+        NodeData::Root => false,
+        NodeData::Element { .. } => true,
+        NodeData::Attr { .. } => false,
+        NodeData::Text(_) => false,
+        NodeData::Comment(_) => false,
+        NodeData::Namespace { .. } => false,
+        NodeData::ProcessingInstruction { .. } => false,
+    }
+}
+
+// Whether a handle resolves to an element.
+pub fn shows_element(d: Document, mem: &[u64], id: NodeId) -> bool
+    requires { ⌜ memoryOk d (length (now mem)) ≡ true ⌝ }
+    ensures { λ r. ⌜ r ≡ showsElement (decode d (now (mem .entry))) (wordOf id) ⌝ }
+{
+    match memory::read::resolve(d, mem, id) {
+        Loaded::Found(node) => {
+            let data = node.data;
+            element(data)
+        }
+        Loaded::NoNode => false,
+    }
+}
+
+// The first element of a block of children.
+pub fn first_element(d: Document, mem: &[u64], block: Range) -> NodeAnswer
+    requires { ⌜ (memoryOk d (length (now mem)) ≡ true) × (block .start + block .len ≤ entriesOf (d .limits) children) ⌝ }
+    ensures { λ r. ⌜ ofNode r ≡ node (find (showsElement (decode d (now (mem .entry)))) (listOf (arenaIn d children (now (mem .entry))) (blockOf block))) ⌝ }
+{
+    let start = block.start as usize;
+    let len = block.len as usize;
+    let mut k = 0;
+    while k < len {
+        let word = memory::read::entry(d, mem, Arena::Children, start + k);
+        let id = slots::handle::id_of(word);
+        if shows_element(d, mem, id) {
+            return NodeAnswer::Node(id);
+        }
+        k += 1;
+    }
+    NodeAnswer::Nothing
+}
