@@ -1,0 +1,11 @@
+pub mod Past
+pub mod Composed
+pub mod Moved
+pub mod Lists
+pub mod Taking
+pub mod Filled
+pub mod Bearing
+pub mod Appending
+pub mod Unhooked
+pub mod Ready
+pub mod Repooled

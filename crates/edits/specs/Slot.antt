@@ -1,0 +1,62 @@
+-- A slot is taken for a new node.
+use mathlib.Core.Path.{_≡_}
+use mathlib.Core.Bool.{true, false}
+use mathlib.Core.Option.{none}
+use mathlib.Core.List.{List}
+use Prim.Native.Nat.{ℕ, _%_, _<_}
+use lib.ListN.{length, getD}
+use Rattle.blocks.specs.Arena.{block}
+use Rattle.slots.specs.Fields.{NodeFits}
+use Rattle.slots.specs.Handles.{handleIndex}
+use Rattle.slots.specs.declared.Node.{Node}
+use Rattle.model.specs.Kinds.{Which}
+use Rattle.model.specs.Doc.{Doc, generationAt}
+use Rattle.model.specs.Calls.{slotFits}
+use Rattle.memory.specs.declared.layout.Counts.{Counts}
+use Rattle.memory.specs.declared.layout.Document.{Document}
+use Rattle.memory.specs.Layout.{memoryOk}
+use Rattle.memory.specs.Decode.{handleOf, rangeOf, decode}
+use Rattle.memory.specs.Writing.{recordWith}
+use Rattle.edits.specs.Step.{RoomIn}
+
+-- the record with other counts of the slots made and free; the order is not current any more
+abbrev pub slotCounts : Counts → ℕ → ℕ → Counts
+slotCounts c made free = record {
+  slots = made;
+  free = free;
+  children = c .children;
+  attributes = c .attributes;
+  namespaces = c .namespaces;
+  texts = c .texts;
+  freetexts = c .freetexts;
+  textbytes = c .textbytes;
+  names = c .names;
+  namebytes = c .namebytes;
+}
+
+abbrev pub withSlots : Document → ℕ → ℕ → Document
+withSlots d made free = recordWith d (slotCounts (d .counts) made free) false
+
+-- what taking a slot asks of a document: of rules 1 and 2 that counts and generations are in their fields and the free list holds slots made of odd generation, and a slot
+pub record SlotReady (D : Doc) : Type 0 where
+  pub counts : D .countsFit ≡ true
+  pub generations : (i : ℕ) → i < length (D .gens) → getD (D .gens) i 0 < 4294967296
+  pub inside : (i : ℕ) → i < length (D .free) → getD (D .free) i 0 < length (D .gens)
+  pub odd : (i : ℕ) → i < length (D .free) → generationAt D (getD (D .free) i 0) % 2 ≡ 1
+  pub slot : slotFits D ≡ true
+
+-- test 4, and a slot
+pub record CanBear (d : Document) (mem : List ℕ) : Type 0 where
+  pub memory : memoryOk d (length mem) ≡ true
+  pub ready : SlotReady (decode d mem)
+
+-- a node in no list, with all its blocks (0, 0)
+pub record Newborn (m : Node) : Type 0 where
+  pub fits : NodeFits m
+  pub orphan : handleOf (m .parent) ≡ none
+  pub bare : (w : Which) → rangeOf w m ≡ block 0 0
+
+-- a slot, and room in p's block of this arena
+pub record Appendable (d : Document) (mem : List ℕ) (w : Which) (p : ℕ) : Type 0 where
+  pub bear : CanBear d mem
+  pub room : RoomIn (decode d mem) w (handleIndex p)

@@ -1,0 +1,5 @@
+// The writing half of the editing calls: steps over the lent buffer that do not refuse any more, each one change of the decoded document.
+pub mod append;
+pub mod born;
+pub mod hooks;
+pub mod moves;

@@ -1,0 +1,12 @@
+pub mod Verdicts
+pub mod Viewed
+pub mod Bytes
+pub mod Counts
+pub mod Texts
+pub mod Room
+pub mod Appended
+pub mod Climbing
+pub mod Finding
+pub mod Rooted
+pub mod Named
+pub mod Replaced

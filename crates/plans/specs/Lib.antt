@@ -1,0 +1,3 @@
+pub mod Verdicts
+pub mod Undamaged
+pub mod Listed

@@ -1,0 +1,102 @@
+// The checks and Full of the calls on an element's attributes and namespaces.
+ghost use mathlib.Core.Path.{_≡_};
+ghost use mathlib.Core.Bool.{true, _&&_};
+ghost use lib.ListN.{length};
+ghost use Rattle.slots.specs.Handles.{wordOf};
+ghost use Rattle.model.specs.Kinds.{namespaces};
+ghost use Rattle.model.specs.Doc.{resolves, viewAt};
+ghost use Rattle.model.specs.Checks.{checkRemoveAttribute, checkDeclareNamespace, checkSetAttribute};
+ghost use Rattle.model.specs.Calls.{fullUnless, twoFit, nodeFits};
+ghost use Rattle.memory.specs.Layout.{memoryOk};
+ghost use Rattle.memory.specs.Decode.{decode};
+ghost use Rattle.plans.specs.Verdicts.{verdictNumber};
+ghost use Rattle.plans.specs.Undamaged.{Undamaged};
+use crate::arguments::check_attribute;
+use crate::arguments::check_binding;
+use crate::arguments::three_not_utf8;
+use crate::arguments::two_not_utf8;
+use crate::full::node_fits;
+use crate::full::two_fit;
+use crate::verdict::Verdict;
+use crate::verdict::first;
+use crate::verdict::full_unless;
+use crate::verdict::is_accepted;
+use crate::views::an_element;
+use memory::layout::Arena;
+use memory::layout::Document;
+use slots::NodeId;
+
+// Never Full: where there is no such attribute, nothing is done.
+pub fn plan_remove_attribute(
+    d: Document,
+    mem: &[u64],
+    element: NodeId,
+    namespace: &[u8],
+    local: &[u8],
+) -> Verdict
+    requires { ⌜ memoryOk d (length (now mem)) ≡ true ⌝ }
+    ensures { λ r. ⌜ verdictNumber r ≡ checkRemoveAttribute (now (namespace .entry)) (now (local .entry)) (viewAt (decode d (now (mem .entry))) (wordOf element)) ⌝ }
+{
+    first(two_not_utf8(namespace, local), an_element(d, mem, element))
+}
+
+pub fn check_declare_namespace(
+    d: Document,
+    mem: &[u64],
+    element: NodeId,
+    prefix: &[u8],
+    uri: &[u8],
+) -> Verdict
+    requires { ⌜ memoryOk d (length (now mem)) ≡ true ⌝ }
+    ensures { λ r. ⌜ verdictNumber r ≡ checkDeclareNamespace (now (prefix .entry)) (now (uri .entry)) (viewAt (decode d (now (mem .entry))) (wordOf element)) ⌝ }
+{
+    let place = first(two_not_utf8(prefix, uri), an_element(d, mem, element));
+    if is_accepted(place) {
+        check_binding(prefix, uri)
+    } else {
+        place
+    }
+}
+
+// Found: the element has an attribute of this pair; only a new one has its local part tested.
+pub fn check_set_attribute(
+    d: Document,
+    mem: &[u64],
+    element: NodeId,
+    namespace: &[u8],
+    local: &[u8],
+    value: &[u8],
+    found: bool,
+) -> Verdict
+    requires { ⌜ memoryOk d (length (now mem)) ≡ true ⌝ }
+    ensures { λ r. ⌜ verdictNumber r ≡ checkSetAttribute (now (namespace .entry)) (now (local .entry)) (now (value .entry)) (viewAt (decode d (now (mem .entry))) (wordOf element)) found ⌝ }
+{
+    let place = first(
+        three_not_utf8(namespace, local, value),
+        an_element(d, mem, element),
+    );
+    if is_accepted(place) {
+        check_attribute(namespace, local, value, found)
+    } else {
+        place
+    }
+}
+
+// Full, of a new namespace node.
+pub fn new_namespace_fits(
+    d: Document,
+    mem: &[u64],
+    element: NodeId,
+    prefix: &[u8],
+    uri: &[u8],
+) -> Verdict
+    requires { ⌜ Undamaged d (now mem) ⌝ }
+    requires { ⌜ resolves (decode d (now mem)) (wordOf element) ≡ true ⌝ }
+    ensures { λ r. ⌜ verdictNumber r ≡ fullUnless (twoFit (decode d (now (mem .entry))) (now (prefix .entry)) (now (uri .entry)) && nodeFits (decode d (now (mem .entry))) namespaces (wordOf element)) ⌝ }
+{
+    if two_fit(d, mem, prefix, uri) {
+        full_unless(node_fits(d, mem, Arena::Namespaces, element))
+    } else {
+        full_unless(false)
+    }
+}

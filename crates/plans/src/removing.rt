@@ -1,0 +1,39 @@
+// The plans of `remove` and `detach`. Neither can be Full.
+ghost use mathlib.Core.Path.{_≡_};
+ghost use mathlib.Core.Bool.{true};
+ghost use lib.ListN.{length};
+ghost use Rattle.slots.specs.Handles.{wordOf};
+ghost use Rattle.model.specs.Doc.{viewAt};
+ghost use Rattle.model.specs.Checks.{checkRemove, checkDetach};
+ghost use Rattle.memory.specs.Layout.{memoryOk};
+ghost use Rattle.memory.specs.Decode.{decode};
+ghost use Rattle.plans.specs.Verdicts.{verdictNumber};
+use crate::verdict::Verdict;
+use crate::verdict::refuse_if;
+use crate::views::a_child;
+use crate::views::root_kind;
+use memory::layout::Document;
+use memory::read::resolve;
+use model::Refusal;
+use slots::Loaded;
+use slots::NodeId;
+
+pub fn plan_remove(d: Document, mem: &[u64], node: NodeId) -> Verdict
+    requires { ⌜ memoryOk d (length (now mem)) ≡ true ⌝ }
+    ensures { λ r. ⌜ verdictNumber r ≡ checkRemove (viewAt (decode d (now (mem .entry))) (wordOf node)) ⌝ }
+{
+    match resolve(d, mem, node) {
+        Loaded::Found(found) => {
+            let data = found.data;
+            refuse_if(root_kind(data), Refusal::NotRemovable)
+        }
+        Loaded::NoNode => Verdict::Refused(Refusal::Stale),
+    }
+}
+
+pub fn plan_detach(d: Document, mem: &[u64], node: NodeId) -> Verdict
+    requires { ⌜ memoryOk d (length (now mem)) ≡ true ⌝ }
+    ensures { λ r. ⌜ verdictNumber r ≡ checkDetach (viewAt (decode d (now (mem .entry))) (wordOf node)) ⌝ }
+{
+    a_child(d, mem, node)
+}

@@ -1,0 +1,139 @@
+// The plan of `set_text`, and Full of a replaced text.
+ghost use mathlib.Core.Path.{_≡_};
+ghost use mathlib.Core.Bool.{true};
+ghost use mathlib.Core.Option.{none, some};
+ghost use Prim.Native.Nat.{_≤_};
+ghost use lib.ListN.{length};
+ghost use Rattle.slots.specs.Handles.{wordOf};
+ghost use Rattle.model.specs.Kinds.{replaceable};
+ghost use Rattle.model.specs.Doc.{resolves, viewAt, bytesAt, orElse};
+ghost use Rattle.model.specs.Arguments.{first};
+ghost use Rattle.model.specs.Checks.{checkSetText};
+ghost use Rattle.model.specs.Calls.{fullUnless, underRoot, replacementFits, replaceableAt};
+ghost use Rattle.memory.specs.Decode.{slotOf, kindOf, decode};
+ghost use Rattle.plans.specs.Verdicts.{verdictNumber};
+ghost use Rattle.plans.specs.Undamaged.{Undamaged};
+use crate::arguments::not_utf8;
+use crate::arguments::text_under;
+use crate::full::text_fits;
+use crate::full::texts_fit;
+use crate::paths::parent_of;
+use crate::verdict::Verdict;
+use crate::verdict::first;
+use crate::verdict::full_unless;
+use crate::verdict::is_accepted;
+use crate::views::a_text;
+use crate::views::is_root;
+use memory::layout::Document;
+use memory::layout::texts_at;
+use memory::read::resolve;
+use slots::Chars;
+use slots::Loaded;
+use slots::NodeData;
+use slots::NodeId;
+use slots::Parent;
+use slots::TextSlot;
+use texts::TextCounts;
+use texts::TextLimits;
+
+// Whether a live node's parent is the Root.
+pub fn under_root(d: Document, mem: &[u64], id: NodeId) -> bool
+    requires { ⌜ Undamaged d (now mem) ⌝ }
+    requires { ⌜ resolves (decode d (now mem)) (wordOf id) ≡ true ⌝ }
+    ensures { λ r. ⌜ r ≡ underRoot (decode d (now (mem .entry))) (wordOf id) ⌝ }
+{
+    let word = slots::handle::word_of(id);
+    match parent_of(d, mem, word) {
+        Parent::None => false,
+        Parent::Of(parent) => is_root(d, mem, parent),
+    }
+}
+
+fn check_set_text(d: Document, mem: &[u64], id: NodeId, text: &[u8]) -> Verdict
+    requires { ⌜ Undamaged d (now mem) ⌝ }
+    ensures { λ r. ⌜ verdictNumber r ≡ checkSetText (now (text .entry)) (viewAt (decode d (now (mem .entry))) (wordOf id)) (underRoot (decode d (now (mem .entry))) (wordOf id)) ⌝ }
+{
+    let place = first(not_utf8(text), a_text(d, mem, id));
+    if is_accepted(place) {
+        text_under(under_root(d, mem, id), text)
+    } else {
+        place
+    }
+}
+
+// The text that `set_text`, and a second `set_attribute` or `declare_namespace`, replaces.
+pub fn replaced_field(data: NodeData) -> Chars
+    ensures { λ r. ⌜ slotOf r ≡ orElse none (replaceable (kindOf «data»)) ⌝ }
+{
+    match data {
+        NodeData::Root => Chars::Empty,
+        NodeData::Element { .. } => Chars::Empty,
+        NodeData::Attr { value, .. } => value,
+        NodeData::Text(content) => content,
+        NodeData::Comment(_) => Chars::Empty,
+        NodeData::Namespace { uri, .. } => uri,
+        NodeData::ProcessingInstruction { .. } => Chars::Empty,
+    }
+}
+
+// How many bytes the text of a slot has.
+fn text_length(d: Document, mem: &[u64], slot: TextSlot) -> usize
+    requires { ⌜ Undamaged d (now mem) ⌝ }
+    ensures { λ r. ⌜ (r ≡ length (bytesAt (decode d (now (mem .entry))) (some (slot .0)))) × (r ≤ d .counts .textbytes) ⌝ }
+{
+    let l = d.limits;
+    let c = d.counts;
+    let limits = TextLimits {
+        slots: l.texts,
+        bytes: l.textbytes,
+    };
+    let counts = TextCounts {
+        slots: c.texts,
+        free: c.freetexts,
+        bytes: c.textbytes,
+    };
+    let start = texts_at(l);
+    let end = start + (l.texts + l.texts + l.textbytes);
+    let number = slot.0;
+    let place = texts::text_place(&mem[start..end], limits, counts, number as usize);
+    place.len
+}
+
+// The old text is counted off; a field with a slot keeps it.
+pub fn replacement_fits(d: Document, mem: &[u64], field: Chars, text: &[u8]) -> bool
+    requires { ⌜ Undamaged d (now mem) ⌝ }
+    ensures { λ r. ⌜ r ≡ replacementFits (decode d (now (mem .entry))) (slotOf field) (now (text .entry)) ⌝ }
+{
+    match field {
+        Chars::Empty => text_fits(d, mem, text),
+        Chars::Expanded(slot) => texts_fit(d, 0, text_length(d, mem, slot), text.len()),
+    }
+}
+
+// Full, of another text of a live node.
+pub fn replacing_fits(d: Document, mem: &[u64], id: NodeId, text: &[u8]) -> Verdict
+    requires { ⌜ Undamaged d (now mem) ⌝ }
+    requires { ⌜ resolves (decode d (now mem)) (wordOf id) ≡ true ⌝ }
+    ensures { λ r. ⌜ verdictNumber r ≡ fullUnless (replacementFits (decode d (now (mem .entry))) (replaceableAt (decode d (now (mem .entry))) (wordOf id)) (now (text .entry))) ⌝ }
+{
+    match resolve(d, mem, id) {
+        Loaded::Found(node) => {
+            let data = node.data;
+            let field = replaced_field(data);
+            full_unless(replacement_fits(d, mem, field, text))
+        }
+        Loaded::NoNode => Verdict::Accepted,
+    }
+}
+
+pub fn plan_set_text(d: Document, mem: &[u64], id: NodeId, text: &[u8]) -> Verdict
+    requires { ⌜ Undamaged d (now mem) ⌝ }
+    ensures { λ r. ⌜ verdictNumber r ≡ first (checkSetText (now (text .entry)) (viewAt (decode d (now (mem .entry))) (wordOf id)) (underRoot (decode d (now (mem .entry))) (wordOf id))) (fullUnless (replacementFits (decode d (now (mem .entry))) (replaceableAt (decode d (now (mem .entry))) (wordOf id)) (now (text .entry)))) ⌝ }
+{
+    let checked = check_set_text(d, mem, id, text);
+    if is_accepted(checked) {
+        replacing_fits(d, mem, id, text)
+    } else {
+        checked
+    }
+}

@@ -1,0 +1,9 @@
+pub mod Distinct
+pub mod Visits
+pub mod Orders
+pub mod Listing
+pub mod Numbering
+pub mod Walkable
+pub mod Renewing
+pub mod Cleared
+pub mod Pushing

@@ -1,0 +1,161 @@
+-- A node's list: the part of the memory that it is, its entries one by one, and what stays of it while keys are written.
+-- Assumes nothing.
+use mathlib.Core.Path.{_≡_, refl, sym, ap, _∙_, subst}
+use mathlib.Core.Bool.{true}
+use mathlib.Core.List.{List, [], _∷_, _++_, reverse, reverse-cons, List·Memᴰ, List·Memᴰ·head, List·Memᴰ·tail}
+use Prim.Native.Nat.{ℕ, zero, suc, _+_, _-_, _*_, _≤_, _<_}
+use native.Mathlib.Omega.{arith}
+use native.Mathlib.Numerals.{add-one}
+use lib.ListN.{length, getD, set, take, drop, length-drop, length-reverse}
+use lib.Seq.{drop-length, drop-cons}
+use Rattle.words.specs.Parts.{part, put}
+use Rattle.words.proofs.Parts.{lent, length-part, getD-part, take-part, part-part, part-none, part-snoc, put-back, set-put-after, put-nil}
+use Rattle.blocks.specs.Arena.{Block, listOf}
+use Rattle.slots.specs.Handles.{handleIndex}
+use Rattle.slots.specs.Regions.{putOrder}
+use Rattle.slots.specs.declared.Range.{Range}
+use Rattle.slots.proofs.Regions.{length-putOrder}
+use Rattle.model.specs.Kinds.{Which}
+use Rattle.model.specs.Doc.{Doc, rangeIn, listIn}
+use Rattle.model.specs.Edits.{keyed}
+use Rattle.memory.specs.declared.layout.Document.{Document}
+use Rattle.memory.specs.Layout.{limitsOf, entriesOf, arenaAt, memoryOk}
+use Rattle.memory.specs.Decode.{blockOf, rangeLoaded, loadedAt, slotsPart, arenaPart, arenaIn, poolIn, namesIn, lengthsAdd, decode}
+use Rattle.memory.proofs.Columns.{range-in}
+use Rattle.memory.specs.Writing.{putSlots}
+use Rattle.memory.proofs.Reading.{slots-lent}
+use Rattle.memory.proofs.Shaped.{length-slotsPart, length-ids}
+use Rattle.walks.specs.Order.{putKeys, ListHeld, Listed}
+use Rattle.walks.proofs.Orders.{withOrder, length-putKeys, decode-putKeys, keys-none, keys-more, key-one}
+
+-- ---- lists
+
+pub mem-getD : (l : List ℕ) (i a : ℕ) → i < length l → List·Memᴰ (getD l i a) l
+mem-getD [] i a h = absurd (omega arith)
+mem-getD (x ∷ l) zero a h = List·Memᴰ·head refl
+mem-getD (x ∷ l) (suc i) a h = List·Memᴰ·tail (mem-getD l i a (omega arith))
+
+-- entries pushed from the last on
+pub pushed-none : (s e : List ℕ) (p : ℕ) → s ≡ put p (reverse (drop (length e) e)) s
+pushed-none s e p = sym (ap (λ (x : List ℕ). put p (reverse x) s) (drop-length e) ∙ put-nil s p [])
+
+pub pushed-next : (s e t : List ℕ) (p left top : ℕ) → 0 < left → left ≤ length e → top + left ≡ p + length e → p + length e ≤ length s
+    → t ≡ put p (reverse (drop left e)) s → set t top (getD e (left - 1) 0) ≡ put p (reverse (drop (left - 1) e)) s
+pushed-next s e t p zero top a b q f k = absurd (omega arith)
+pushed-next s e t p (suc m) top a b q f k =
+    let v = getD e m 0 in
+    let size : length (reverse (drop (suc m) e)) ≡ length e - suc m = length-reverse (drop (suc m) e) ∙ length-drop (suc m) e in
+    let at : top ≡ p + length (reverse (drop (suc m) e)) = omega arith in
+    let z : suc m - 1 ≡ m = omega arith in
+    rw z
+    (ap (λ (x : List ℕ). set x top v) k
+    ∙ ap (λ (i : ℕ). set (put p (reverse (drop (suc m) e)) s) i v) at
+    ∙ set-put-after s p (reverse (drop (suc m) e)) v (omega arith)
+    ∙ ap (λ (x : List ℕ). put p x s) (sym (ap reverse (drop-cons e m 0 (omega arith)) ∙ reverse-cons v (drop (suc m) e))))
+
+pub pushed-all : (s e t : List ℕ) (p left : ℕ) → left ≤ 0 → t ≡ put p (reverse (drop left e)) s → t ≡ put p (reverse e) s
+pushed-all s e t p zero h k = k
+pushed-all s e t p (suc m) h k = absurd (omega arith)
+
+-- ---- the block of a slot
+
+module _ (d : Document) (mem : List ℕ) (w : Which) (s : ℕ) where
+  -- a range that was read is where the list lies
+  pub record BlockRead (r : Range) : Type 0 where
+    pub inside : r .start + r .len ≤ limitsOf (d .limits) .entries w
+    pub list : listIn (decode d mem) w s ≡ part (r .start) (r .len) (arenaIn d w mem .ids)
+
+  pub block-read : ListHeld d mem w s → (r : Range) → blockOf r ≡ rangeLoaded w (loadedAt (d .limits .nodes) (slotsPart d mem) s) → BlockRead r
+  block-read h r e =
+      let q : blockOf r ≡ rangeIn (decode d mem) w s = e ∙ sym (range-in (poolIn d mem) (namesIn d mem) (lengthsAdd d mem) d mem s (h .slot) w) in
+      let a : r .start ≡ rangeIn (decode d mem) w s .start = ap (λ (b : Block). b .start) q in
+      let b : r .len ≡ rangeIn (decode d mem) w s .len = ap (λ (b : Block). b .len) q in
+      let i = h .inside in
+      record { inside = omega arith; list = sym (ap (listOf (arenaIn d w mem)) q) }
+
+  -- the part of the memory that is lent for it
+  pub list-lent : (r : Range) (at : ℕ) → BlockRead r → at ≡ arenaAt (limitsOf (d .limits)) w
+      → take (at + r .start + r .len - (at + r .start)) (drop (at + r .start) mem) ≡ listIn (decode d mem) w s
+  list-lent r at b e =
+      let l = entriesOf (d .limits) w in
+      let start = arenaAt (limitsOf (d .limits)) w in
+      let i = b .inside in
+      lent mem (at + r .start) (r .len)
+      ∙ ap (λ (x : ℕ). part (x + r .start) (r .len) mem) e
+      ∙ sym (part-part mem start l (r .start) (r .len) (omega arith))
+      ∙ ap (part (r .start) (r .len)) (sym (take-part mem start (2 * l) l (omega arith)))
+      ∙ sym (b .list)
+
+-- ---- keys for the entries
+
+-- the part of the slots, lent and returned with an order word
+pub key-put : (d : Document) (mem : List ℕ) → memoryOk d (length mem) ≡ true → (word key s : ℕ) → s ≡ handleIndex word → handleIndex word < d .limits .nodes → (ys : List ℕ)
+    → ys ≡ putOrder (d .limits .nodes) (take (15 * d .limits .nodes - 0) (drop 0 mem)) s key → ys ++ drop (15 * d .limits .nodes - 0) (drop 0 mem) ≡ putKeys d mem key (word ∷ [])
+unfolding putSlots
+key-put d mem ok word key s e h ys q =
+    let n = d .limits .nodes in
+    let k : ys ≡ putOrder n (slotsPart d mem) s key = q ∙ ap (λ (x : List ℕ). putOrder n x s key) (slots-lent d mem) in
+    let size : length ys ≡ 15 * n - 0 = ap length k ∙ length-putOrder n (slotsPart d mem) s key ∙ omega (arith, length-slotsPart d mem ok) in
+    put-back mem 0 ys (15 * n - 0) size ∙ ap (λ (x : List ℕ). put 0 x mem) k ∙ key-one d mem ok word key s e h
+
+module _ (d : Document) (mem : List ℕ) (ok : memoryOk d (length mem) ≡ true) (w : Which) where
+  ids : List ℕ
+  ids = arenaIn d w mem .ids
+
+  pub arena-putKeys : (key : ℕ) (l : List ℕ) → arenaIn d w (putKeys d mem key l) ≡ arenaIn d w mem
+  arena-putKeys key l = ap (λ (x : Doc). x .arenas w) (decode-putKeys d mem ok key l)
+
+  pub keys-first : (start key : ℕ) → mem ≡ putKeys d mem key (part start 0 (arenaIn d w mem .ids))
+  keys-first start key = sym (ap (putKeys d mem key) (part-none (arenaIn d w mem .ids) start) ∙ keys-none d mem ok key)
+
+  pub keys-sized : (key : ℕ) (l mem′ : List ℕ) → mem′ ≡ putKeys d mem key l → length mem′ ≡ length mem
+  keys-sized key l mem′ e = ap length e ∙ length-putKeys d mem ok key l
+
+  -- the whole list numbered
+  pub list-numbered : (s : ℕ) (r : Range) → BlockRead d mem w s r → (key k : ℕ) (mem′ : List ℕ) → k ≤ r .len → r .len ≤ k → mem′ ≡ putKeys d mem key (part (r .start) k (arenaIn d w mem .ids))
+      → (key + r .len ≡ key + length (listIn (decode d mem) w s)) × (mem′ ≡ putKeys d mem key (listIn (decode d mem) w s))
+  list-numbered s r b key k mem′ h g e =
+      let q : k ≡ r .len = omega arith in
+      let i = b .inside in (
+        ap (λ (x : ℕ). key + x) (sym (ap length (b .list) ∙ length-part (arenaIn d w mem .ids) (r .start) (r .len) (omega (arith, length-ids d mem ok w)))),
+        e ∙ ap (λ (x : ℕ). putKeys d mem key (part (r .start) x (arenaIn d w mem .ids))) q ∙ ap (putKeys d mem key) (sym (b .list)),
+      )
+
+  module _ (start len k key word : ℕ) (mem′ : List ℕ) (fits : start + len ≤ limitsOf (d .limits) .entries w) (h : k < len)
+      (e : mem′ ≡ putKeys d mem key (part start k (arenaIn d w mem .ids))) (q : word ≡ getD (arenaIn d w mem′ .ids) (start + k) 0) where
+    entry-read : word ≡ getD (arenaIn d w mem .ids) (start + k) 0
+    entry-read =
+        q ∙ ap (λ (x : List ℕ). getD (arenaIn d w x .ids) (start + k) 0) e
+        ∙ ap (λ (x : List ℕ). getD x (start + k) 0) (ap (λ (x : Doc). x .arenas w .ids) (decode-putKeys d mem ok key (part start k (arenaIn d w mem .ids))))
+
+    pub entry-listed : (s : ℕ) → Listed d mem w s → listIn (decode d mem) w s ≡ part start len (arenaIn d w mem .ids) → handleIndex word < d .limits .nodes
+    entry-listed s l f =
+        l .slots word
+        (subst (λ (x : List ℕ). List·Memᴰ word x) (sym f)
+        (subst (λ (x : ℕ). List·Memᴰ x (part start len (arenaIn d w mem .ids))) (sym (entry-read ∙ sym (getD-part (arenaIn d w mem .ids) start len k 0 h)))
+        (mem-getD (part start len (arenaIn d w mem .ids)) k 0 (omega (arith, length-part (arenaIn d w mem .ids) start len (omega (arith, length-ids d mem ok w)))))))
+
+    pub keys-next : (mem″ : List ℕ) → mem″ ≡ putKeys d mem′ (key + k) (word ∷ []) → mem″ ≡ putKeys d mem key (part start (k + 1) (arenaIn d w mem .ids))
+    keys-next mem″ f =
+        let p = part start k (arenaIn d w mem .ids) in
+        let size : length p ≡ k = length-part (arenaIn d w mem .ids) start k (omega (arith, length-ids d mem ok w)) in
+        f ∙ ap (λ (x : List ℕ). putKeys d x (key + k) (word ∷ [])) e
+        ∙ ap (λ (x : ℕ). putKeys d (putKeys d mem key p) (key + x) (word ∷ [])) (sym size)
+        ∙ keys-more d mem ok key p (word ∷ [])
+        ∙ ap (putKeys d mem key)
+        (ap (λ (x : ℕ). p ++ (x ∷ [])) entry-read
+        ∙ sym (part-snoc (arenaIn d w mem .ids) start k 0 (omega (arith, length-ids d mem ok w)))
+        ∙ ap (λ (x : ℕ). part start x (arenaIn d w mem .ids)) (sym (add-one k)))
+
+  -- lists are as they were
+  pub listed-kept : (key : ℕ) (l : List ℕ) (s : ℕ) → Listed d mem w s → Listed d (putKeys d mem key l) w s
+  listed-kept key l s h =
+      let e = decode-putKeys d mem ok key l in
+      record {
+        held = record {
+          memory = ap (memoryOk d) (length-putKeys d mem ok key l) ∙ ok;
+          slot = h .held .slot;
+          inside = subst (λ (x : Doc). rangeIn x w s .start + rangeIn x w s .len ≤ limitsOf (d .limits) .entries w) (sym e) (h .held .inside);
+        };
+        slots = subst (λ (x : Doc). (y : ℕ) → List·Memᴰ y (listIn x w s) → handleIndex y < d .limits .nodes) (sym e) (h .slots);
+      }
