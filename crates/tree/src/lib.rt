@@ -1,0 +1,1 @@
+// The public calls over lent memory: their contracts, and the claim about every list of them.
