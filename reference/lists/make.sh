@@ -1,0 +1,11 @@
+#!/usr/bin/env bash
+# Makes the generated lists and the answers of all lists anew. examples, refusals, limits and year are written by hand.
+set -euo pipefail
+cd "$(dirname "$0")"
+programs=../target/release
+for profile in $("$programs/generate"); do
+    "$programs/generate" 7 260 "$profile" >"$profile.calls"
+done
+for list in *.calls; do
+    "$programs/reference" --check <"$list" >"${list%.calls}.answers"
+done

@@ -1,0 +1,6 @@
+mod chars;
+mod generation;
+mod lines;
+mod lists;
+mod memory;
+mod rules;
