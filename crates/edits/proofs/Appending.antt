@@ -28,7 +28,8 @@ use Rattle.memory.specs.Decode.{poolIn, namesIn, lengthsAdd, decode}
 use Rattle.memory.proofs.Columns.{length-gens}
 use Rattle.memory.proofs.Limits.{sizes}
 use Rattle.memory.proofs.Shaped.{shape}
-use Rattle.edits.specs.Step.{Step, Attachable, RoomIn}
+use Rattle.memory.specs.Step.{Step}
+use Rattle.edits.specs.Asked.{Attachable, RoomIn}
 use Rattle.edits.specs.Slot.{SlotReady, Appendable}
 use Rattle.edits.proofs.Composed.{step-as, step-memory, step-next}
 use Rattle.edits.proofs.Lists.{room-open}

@@ -31,9 +31,9 @@ use Rattle.memory.proofs.Kept.{decode-kept, putSlots-texts}
 use Rattle.memory.proofs.Reading.{slots-lent}
 use Rattle.memory.proofs.Shaped.{length-slotsPart}
 use Rattle.memory.proofs.Written.{length-putSlots, slotsPart-putSlots}
-use Rattle.edits.specs.Step.{Step}
+use Rattle.memory.specs.Step.{Step}
 use Rattle.edits.specs.Slot.{withSlots, CanBear, Newborn}
-use Rattle.edits.proofs.Past.{slots-past}
+use Rattle.memory.proofs.Past.{slots-past}
 use Rattle.edits.proofs.Taking.{reverse-next, can-take}
 use Rattle.edits.proofs.Filled.{filledWords, length-filled, decode-reused, decode-made}
 

@@ -10,7 +10,7 @@ use Rattle.memory.specs.declared.layout.Limits.{Limits}
 use Rattle.memory.specs.declared.layout.Document.{Document}
 use Rattle.memory.specs.Layout.{limitsOf, documentWords, memoryOk}
 use Rattle.memory.specs.Decode.{decode}
-use Rattle.edits.specs.Step.{Step}
+use Rattle.memory.specs.Step.{Step}
 
 -- nothing is written
 pub step-none : (d : Document) (mem : List ℕ) (D : Doc) → decode d mem ≡ D → Step d mem d mem D

@@ -1,4 +1,3 @@
-pub mod Past
 pub mod Composed
 pub mod Moved
 pub mod Lists
@@ -9,3 +8,14 @@ pub mod Appending
 pub mod Unhooked
 pub mod Ready
 pub mod Repooled
+pub mod Lent
+pub mod Stored
+pub mod Renamed
+pub mod Interned
+pub mod Accepted
+pub mod Moving
+pub mod NewNodes
+pub mod Appends
+pub mod Fields
+pub mod Replaced
+pub mod ElementLists

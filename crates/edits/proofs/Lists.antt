@@ -20,7 +20,8 @@ use Rattle.memory.specs.Layout.{entriesOf, memoryOk}
 use Rattle.memory.specs.Decode.{blockOf, rangeLoaded, loadedAt, slotsPart, arenaPart, arenaUsed, decode}
 use Rattle.memory.specs.Entries.{BlockHeld, BlockOpen, rangeFrom}
 use Rattle.memory.proofs.BlockSteps as blocks
-use Rattle.edits.specs.Step.{Step, Attachable, RoomIn, Movable}
+use Rattle.memory.specs.Step.{Step}
+use Rattle.edits.specs.Asked.{Attachable, RoomIn, Movable}
 use Rattle.edits.proofs.Composed.{step-as, step-memory, step-next}
 use Rattle.edits.proofs.Moved.{live-unlink}
 

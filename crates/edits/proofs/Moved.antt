@@ -35,8 +35,9 @@ use Rattle.memory.proofs.Columns.{live-made, live-none, kind-found, parent-foun
 use Rattle.memory.proofs.Shaped.{loaded-fits}
 use Rattle.memory.proofs.BlockSteps as blocks
 use Rattle.memory.proofs.Promises.{parent-promise, link-promise, unlink-promise}
-use Rattle.edits.specs.Step.{Step, NodeHeld, Hooked, Attachable}
-use Rattle.edits.proofs.Past.{PastKept, words-past, block-past}
+use Rattle.memory.specs.Step.{Step}
+use Rattle.edits.specs.Asked.{NodeHeld, Hooked, Attachable}
+use Rattle.memory.proofs.Past.{PastKept, words-past, block-past}
 use Rattle.edits.proofs.Composed.{step-none, step-as, step-memory, step-next}
 
 -- ---- a live node
@@ -64,6 +65,12 @@ module _ (d : Document) (mem : List ℕ) (id : NodeId) (hi : id .index < 4294967
       go : (l : Loaded) → loadedAt (d .limits .nodes) (slotsPart d mem) (id .index) ≡ l → Live
       go (Found m) e = record { node = m; loaded = e }
       go NoNode e = absurd (not-none e)
+
+  pub kind-loaded : (m : Node) → loadedAt (d .limits .nodes) (slotsPart d mem) (id .index) ≡ Found m → kindAt (decode d mem) (wordOf id) ≡ kindOf (m .«data»)
+  kind-loaded m e = kind-index (handleIndex (wordOf id)) (handleIndex-wordOf id hi)
+    where
+      kind-index : (i : ℕ) → i ≡ id .index → kindIn (decode d mem) i ≡ kindOf (m .«data»)
+      kind-index i j = ap (kindIn (decode d mem)) j ∙ kind-found (poolIn d mem) (namesIn d mem) (lengthsAdd d mem) d mem (id .index) node-made m e
 
   parent-past : (q : Parent) → PastKept d mem (putParent d mem (id .index) q)
   unfolding putParent
@@ -159,12 +166,6 @@ module _ (d : Document) (mem : List ℕ) (id : NodeId) (hi : id .index < 4294967
       parent-index : (i : ℕ) → i ≡ id .index → parentIn (decode d mem) i ≡ handleOf (m .parent)
       parent-index i j = ap (parentIn (decode d mem)) j ∙ parent-found (poolIn d mem) (namesIn d mem) (lengthsAdd d mem) d mem (id .index) (node-made d mem id hi (h .node)) m e
 
-  kind-is : kindAt (decode d mem) (wordOf id) ≡ kindOf (m .«data»)
-  kind-is = kind-index (handleIndex (wordOf id)) (handleIndex-wordOf id hi)
-    where
-      kind-index : (i : ℕ) → i ≡ id .index → kindIn (decode d mem) i ≡ kindOf (m .«data»)
-      kind-index i j = ap (kindIn (decode d mem)) j ∙ kind-found (poolIn d mem) (namesIn d mem) (lengthsAdd d mem) d mem (id .index) (node-made d mem id hi (h .node)) m e
-
   -- it has no parent
   pub unlink-none : m .parent ≡ None → Step d mem d mem (unlink (decode d mem) (wordOf id))
   unfolding unlink
@@ -184,7 +185,7 @@ module _ (d : Document) (mem : List ℕ) (id : NodeId) (hi : id .index < 4294967
     parent-some = parent-is ∙ ap handleOf q
 
     arena-is : whichOf (kindAt (decode d mem) (wordOf id)) ≡ w
-    arena-is = ap whichOf kind-is ∙ sym k
+    arena-is = ap whichOf (kind-loaded d mem id hi (h .node) m e) ∙ sym k
 
     pub parent-held : BlockHeld d mem w (p .index)
     parent-held =

@@ -26,7 +26,7 @@ use Rattle.memory.specs.Entries.{BlockHeld}
 use Rattle.memory.proofs.Columns.{length-gens, live-made}
 use Rattle.memory.proofs.Promises.{rules-held}
 use Rattle.memory.proofs.Shaped.{shape}
-use Rattle.edits.specs.Step.{NodeHeld, Hooked, RoomIn, Movable}
+use Rattle.edits.specs.Asked.{NodeHeld, Hooked, RoomIn, Movable}
 use Rattle.edits.specs.Slot.{CanBear, Appendable}
 use Rattle.edits.proofs.Unhooked.{unhooked-room}
 

@@ -1,9 +1,8 @@
 -- What new words of the texts do to the document: another pool, all else equal.
 -- Assumes nothing.
 use mathlib.Core.Path.{_≡_, refl, sym, ap, subst, _∙_}
-use mathlib.Core.Option.{Option}
 use mathlib.Core.Bool.{true}
-use mathlib.Core.List.{List, [], _∷_}
+use mathlib.Core.List.{List}
 use Prim.Native.Nat.{ℕ, _+_, _*_, _≤_, min}
 use native.Mathlib.Omega.{arith}
 use lib.ListN.{length, take}
@@ -18,17 +17,14 @@ use Rattle.texts.specs.Pool.{Pool}
 use Rattle.texts.specs.Words.{Counted, poolOf}
 use Rattle.texts.specs.declared.TextCounts.{TextCounts}
 use Rattle.names.specs.Words.{nameShown}
-use Rattle.names.specs.Table.{Name}
-use Rattle.model.specs.Kinds.{Kind, Which, children, attributes, namespaces}
-use Rattle.model.specs.Doc.{Doc}
-use Rattle.model.specs.Edits.{bornFrom, born}
+use Rattle.model.specs.Kinds.{Which, children, attributes, namespaces}
 use Rattle.memory.specs.declared.layout.Document.{Document}
 use Rattle.memory.specs.Layout.{limitsOf, entriesOf, arenaAt, textsAt, textsWords, namesAt, namesWords, documentWords, memoryOk}
 use Rattle.memory.specs.Decode.{usedOf, countsWithin, slotsPart, arenaPart, textsPart, namesPart, textLimits, textCounts, nameLimits, nameCounts, shownBelow, poolIn, namesIn, lengthsAdd, documentOf, decode}
 use Rattle.memory.proofs.Limits.{memory-long, arena-behind-slots, arena-inside, names-next, words-next}
 use Rattle.memory.proofs.Counted.{counts-fit, fit-counts}
 use Rattle.memory.proofs.Shown.{pool-held}
-use Rattle.edits.specs.Step.{Step}
+use Rattle.memory.specs.Step.{Step}
 use Rattle.edits.specs.Pooled.{putTexts, poolCounts, withTexts, setPool}
 
 module _ (d : Document) (mem : List ℕ) (ok : memoryOk d (length mem) ≡ true) where
@@ -150,12 +146,3 @@ module _ (d : Document) (mem : List ℕ) (ok : memoryOk d (length mem) ≡ true)
           size = length-put mem (textsAt l) words (omega (arith, long, inside));
           past = drop-put-after mem (textsAt l) words (documentWords l) (omega (arith, inside)) (omega (arith, long, names-next l, words-next l));
         }
-
--- a node born after its texts were stored
-pub born-pooled : (D : Doc) (k : Kind ℕ (Option ℕ)) (p : Pool) (names : List Name) → born (setPool D p) k p names ≡ born D k p names
-unfolding born setPool
-born-pooled D k p names = go (D .free)
-  where
-    go : (f : List ℕ) → bornFrom f (setPool D p) k p names ≡ bornFrom f D k p names
-    go [] = refl
-    go (i ∷ l) = refl

@@ -17,7 +17,7 @@ use Rattle.model.specs.Doc.{Doc, liveSlot, kindIn, kindAt, parentAt, rangeIn}
 use Rattle.model.specs.Rules.{hasRange, Blocks, blockIn}
 use Rattle.model.specs.Edits.{setBlock, setParent, unlinkFrom, unlink, unhook}
 use Rattle.memory.proofs.Written.{sameWhich-true}
-use Rattle.edits.specs.Step.{RoomIn}
+use Rattle.edits.specs.Asked.{RoomIn}
 
 module _ (D : Doc) (blocks : Blocks D) (w : Which) (s : ℕ) (live : liveSlot D s ≡ true) (inside : Inside (D .arenas w) (rangeIn D w s)) (long : s < length (D .ranges w)) where
   block-live : blockIn D w s ≡ rangeIn D w s

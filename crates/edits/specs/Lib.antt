@@ -1,3 +1,5 @@
-pub mod Step
+pub mod Asked
 pub mod Slot
 pub mod Pooled
+pub mod Stores
+pub mod Replacing

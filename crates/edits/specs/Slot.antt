@@ -8,6 +8,9 @@ use lib.ListN.{length, getD}
 use Rattle.blocks.specs.Arena.{block}
 use Rattle.slots.specs.Fields.{NodeFits}
 use Rattle.slots.specs.Handles.{handleIndex}
+use Rattle.slots.specs.declared.Range.{Range}
+use Rattle.slots.specs.declared.Parent.the-variants.{None}
+use Rattle.slots.specs.declared.NodeData.{NodeData}
 use Rattle.slots.specs.declared.Node.{Node}
 use Rattle.model.specs.Kinds.{Which}
 use Rattle.model.specs.Doc.{Doc, generationAt}
@@ -17,7 +20,7 @@ use Rattle.memory.specs.declared.layout.Document.{Document}
 use Rattle.memory.specs.Layout.{memoryOk}
 use Rattle.memory.specs.Decode.{handleOf, rangeOf, decode}
 use Rattle.memory.specs.Writing.{recordWith}
-use Rattle.edits.specs.Step.{RoomIn}
+use Rattle.edits.specs.Asked.{RoomIn}
 
 -- the record with other counts of the slots made and free; the order is not current any more
 abbrev pub slotCounts : Counts → ℕ → ℕ → Counts
@@ -49,6 +52,13 @@ pub record SlotReady (D : Doc) : Type 0 where
 pub record CanBear (d : Document) (mem : List ℕ) : Type 0 where
   pub memory : memoryOk d (length mem) ≡ true
   pub ready : SlotReady (decode d mem)
+
+-- a block of no entry, and a node under no parent, with no child
+abbrev pub noBlock : Range
+noBlock = record { start = 0; len = 0 }
+
+abbrev pub newNode : NodeData → Node
+newNode d = record { «data» = d; parent = None; children = noBlock }
 
 -- a node in no list, with all its blocks (0, 0)
 pub record Newborn (m : Node) : Type 0 where

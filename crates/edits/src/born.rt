@@ -5,13 +5,16 @@ ghost use Rattle.slots.specs.Slots.{taken, takenWords};
 ghost use Rattle.model.specs.Edits.{nextHandle, born};
 ghost use Rattle.memory.specs.Decode.{kindOf, slotsPart, slotsMade, slotsFree, decode};
 ghost use Rattle.memory.specs.Writing.{putSlots};
-ghost use Rattle.edits.specs.Step.{Step};
-ghost use Rattle.edits.specs.Slot.{withSlots, CanBear, Newborn};
+ghost use Rattle.memory.specs.Step.{Step};
+ghost use Rattle.edits.specs.Slot.{withSlots, CanBear, newNode, Newborn};
 use memory::layout::Counts;
 use memory::layout::Document;
 use slots::Node;
+use slots::NodeData;
 use slots::NodeId;
 use slots::NodeSlot;
+use slots::Parent;
+use slots::Range;
 use slots::slot::Taken;
 
 // The record after a node was made, and the node's handle.
@@ -56,6 +59,18 @@ fn with_slots(d: Document, made: usize, free: usize) -> Document
         limits,
         counts,
         current: false,
+    }
+}
+
+// A node under no parent, with no child.
+pub fn new_node(data: NodeData) -> Node
+    ensures { λ r. ⌜ r ≡ newNode «data» ⌝ }
+{
+    let children = Range { start: 0, len: 0 };
+    Node {
+        data,
+        parent: Parent::None,
+        children,
     }
 }
 

@@ -6,7 +6,10 @@ ghost use Rattle.model.specs.Doc.{listAt};
 ghost use Rattle.model.specs.Edits.{unhook, attach};
 ghost use Rattle.memory.specs.Layout.{whichOf};
 ghost use Rattle.memory.specs.Decode.{decode};
-ghost use Rattle.edits.specs.Step.{Step, Attachable, Movable};
+ghost use Rattle.model.specs.Calls.{detach, reparent, insert-at, done};
+ghost use Rattle.memory.specs.Step.{Step};
+ghost use Rattle.memory.specs.Performed.{Admitted, Performed};
+ghost use Rattle.edits.specs.Asked.{Attachable, Movable};
 use crate::hooks::attach;
 use crate::hooks::unhook;
 use memory::layout::Arena;
@@ -47,4 +50,27 @@ pub fn do_reparent(d: Document, mem: &mut [u64], parent: NodeId, id: NodeId) -> 
 {
     let alone = unhook(d, mem, id);
     attach_last(alone, mem, Arena::Children, parent, id)
+}
+
+// ---- the calls, behind their plans
+
+pub fn detach_node(d: Document, mem: &mut [u64], id: NodeId) -> Document
+    requires { ⌜ Admitted (detach (wordOf id)) d (now mem) ⌝ }
+    ensures { λ r. ⌜ Performed (detach (wordOf id)) d (now (mem .entry)) done r (now (mem .exit)) ⌝ }
+{
+    unhook(d, mem, id)
+}
+
+pub fn move_last(d: Document, mem: &mut [u64], parent: NodeId, id: NodeId) -> Document
+    requires { ⌜ Admitted (reparent (wordOf id) (wordOf parent)) d (now mem) ⌝ }
+    ensures { λ r. ⌜ Performed (reparent (wordOf id) (wordOf parent)) d (now (mem .entry)) done r (now (mem .exit)) ⌝ }
+{
+    do_reparent(d, mem, parent, id)
+}
+
+pub fn move_to(d: Document, mem: &mut [u64], parent: NodeId, at: usize, id: NodeId) -> Document
+    requires { ⌜ Admitted (insert-at (wordOf parent) at (wordOf id)) d (now mem) ⌝ }
+    ensures { λ r. ⌜ Performed (insert-at (wordOf parent) at (wordOf id)) d (now (mem .entry)) done r (now (mem .exit)) ⌝ }
+{
+    do_insert_at(d, mem, parent, at, id)
 }

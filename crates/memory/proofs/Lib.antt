@@ -13,3 +13,4 @@ pub mod Linked
 pub mod Kept
 pub mod Promises
 pub mod Shown
+pub mod Past

@@ -2,3 +2,6 @@ pub mod Layout
 pub mod Decode
 pub mod Writing
 pub mod Entries
+pub mod Undamaged
+pub mod Step
+pub mod Performed

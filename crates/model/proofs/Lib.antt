@@ -59,3 +59,4 @@ pub mod StepsOrder
 pub mod Theorem
 pub mod Instance
 pub mod RefusalNumbers
+pub mod Resolving

@@ -7,21 +7,8 @@ use mathlib.Core.List.{List}
 use Prim.Native.Nat.{ℕ, zero, suc}
 use Rattle.names.specs.Table.{Name, name}
 use Rattle.model.specs.Doc.{Doc}
-use Rattle.model.specs.Calls.{Answered, refused, done, made, truth, node, listed, everyNode, kindIs, nameIs, key, keys, Out, guarded, step, setAttributeFound, declareNamespaceFound, removeAttributeFound, findAttribute, findNamespace}
+use Rattle.model.specs.Calls.{Answered, isRefusal, refused, done, made, truth, node, listed, everyNode, kindIs, nameIs, key, keys, Out, guarded, step, setAttributeFound, declareNamespaceFound, removeAttributeFound, findAttribute, findNamespace}
 use Rattle.model.specs.Calls.{Call, append-element, append-text, append-comment, append-pi, set-text, set-attribute, remove-attribute, declare-namespace, remove, detach, reparent, insert-at, document-order, compact, root-of, kind-of, parent-of, children-of, root-element, is-element, name-of, attribute-nodes, namespace-nodes, nodes, order-key}
-
-abbrev pub isRefusal : Answered → Bool
-isRefusal (refused n) = true
-isRefusal done = false
-isRefusal (made h) = false
-isRefusal (truth b) = false
-isRefusal (node h) = false
-isRefusal (listed r l) = false
-isRefusal (everyNode l) = false
-isRefusal (kindIs k a n) = false
-isRefusal (nameIs n) = false
-isRefusal (key k) = false
-isRefusal (keys l) = false
 
 guarded-keeps : (n : ℕ) (d : Doc) (o : Out) → (isRefusal (o .answer) ≡ true → o .doc ≡ d) → isRefusal (guarded n d o .answer) ≡ true → guarded n d o .doc ≡ d
 unfolding guarded

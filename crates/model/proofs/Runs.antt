@@ -6,7 +6,7 @@ use mathlib.Core.Bool.{Bool, true, false, cond, false≢true, true≢false}
 use mathlib.Core.List.{List, [], _∷_}
 use Prim.Native.Nat.{ℕ, _<_}
 use Rattle.model.specs.Doc.{Doc}
-use Rattle.model.specs.Calls.{Call, Answered, refused, done, made, truth, node, listed, everyNode, kindIs, nameIs, key, keys}
+use Rattle.model.specs.Calls.{Call, Answered, isRefusal, refused, done, made, truth, node, listed, everyNode, kindIs, nameIs, key, keys}
 use Rattle.model.specs.Calls as calls
 use Rattle.model.specs.Tree.{Tree}
 use Rattle.model.specs.Tree as tree
@@ -14,7 +14,7 @@ use Rattle.model.specs.Claim.{Agrees, Claim, Explains, Tells, isFull, tr
 use Rattle.model.proofs.Wf.{WF}
 use Rattle.model.proofs.Sim.{Sim}
 use Rattle.model.proofs.Matching.{Matches}
-use Rattle.model.proofs.Refusals.{isRefusal, refusal-keeps}
+use Rattle.model.proofs.Refusals.{refusal-keeps}
 
 full-refusal : (a : Answered) → isFull a ≡ true → isRefusal a ≡ true
 full-refusal (refused n) e = refl

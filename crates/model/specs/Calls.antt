@@ -65,6 +65,19 @@ pub data Call : Type 0 where
 abbrev pub Answered : Type 0
 Answered = Answer ℕ ℕ Block
 
+abbrev pub isRefusal : Answered → Bool
+isRefusal (refused n) = true
+isRefusal done = false
+isRefusal (made h) = false
+isRefusal (truth b) = false
+isRefusal (node h) = false
+isRefusal (listed r l) = false
+isRefusal (everyNode l) = false
+isRefusal (kindIs k a n) = false
+isRefusal (nameIs n) = false
+isRefusal (key k) = false
+isRefusal (keys l) = false
+
 -- the document after a call, and its answer
 pub record Out : Type 0 where
   pub doc : Doc

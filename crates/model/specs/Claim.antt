@@ -182,7 +182,7 @@ freed t = goneBelow (t .live) (t .births)
 pub record Explains (hs : ℕ → ℕ) (d : Doc) (t : Tree) : Type 0 where
   -- "No call was refused Damaged": the next one finds every structure rule kept
   pub rules : Rules d
-  -- "A handle resolves exactly when it is the root's or was made in that list for a node not since freed."
+  -- (`ResolvesAsAnswered` says that `resolves` is 01's) "A handle resolves exactly when it is the root's or was made in that list for a node not since freed."
   pub resolving : (b : ℕ) → t .live b ≡ true → resolves d (hs b) ≡ true
   pub resolved : (h : ℕ) → resolves d h ≡ true → (b : ℕ) × (b < t .births) × (t .live b ≡ true) × (hs b ≡ h)
   -- "No two nodes, the root among them, were given equal handles": while fewer than 2,147,483,648 nodes were freed

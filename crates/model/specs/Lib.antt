@@ -10,3 +10,4 @@ pub mod Tree
 pub mod Claim
 pub mod Examples
 pub mod RulesTest
+pub mod Resolving

@@ -20,7 +20,7 @@ module _ (D : Doc) (h : ℕ) where
   stale-view : resolves D h ≡ false → viewAt D h ≡ none
   stale-view e = ap (λ (t : Bool). cond t (some (nodeAt D h)) none) e
 
-  live-accepted : (f : View → ℕ) → f none ≡ 6 → (v : ℕ) (t : Bool) → (a b : ℕ) → v ≡ first a (first (f (viewAt D h)) b) → t ≡ eqb v 0 → t ≡ true → resolves D h ≡ true
+  pub live-accepted : (f : View → ℕ) → f none ≡ 6 → (v : ℕ) (t : Bool) → (a b : ℕ) → v ≡ first a (first (f (viewAt D h)) b) → t ≡ eqb v 0 → t ≡ true → resolves D h ≡ true
   live-accepted f six v t a b e q k = go (resolves D h) refl
     where
       go : (r : Bool) → resolves D h ≡ r → resolves D h ≡ true

@@ -13,7 +13,7 @@ use Rattle.memory.specs.declared.layout.Counts.{Counts}
 use Rattle.memory.specs.declared.layout.Document.{Document}
 use Rattle.memory.specs.Layout.{limitsOf}
 use Rattle.memory.specs.Decode.{countsWithin}
-use Rattle.plans.specs.Undamaged.{Undamaged}
+use Rattle.memory.specs.Undamaged.{Undamaged}
 
 pub record Within (l : Limits) (c : Counts) : Type 0 where
   pub texts : c .texts ≤ l .texts

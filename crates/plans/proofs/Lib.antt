@@ -6,7 +6,13 @@ pub mod Texts
 pub mod Room
 pub mod Appended
 pub mod Climbing
-pub mod Finding
+pub mod Searches
 pub mod Rooted
 pub mod Named
 pub mod Replaced
+pub mod Shown
+pub mod Moved
+pub mod Found
+pub mod Refusing
+pub mod Planned
+pub mod Admitting

@@ -22,7 +22,7 @@ use Rattle.memory.specs.declared.layout.Document.{Document}
 use Rattle.memory.specs.Layout.{limitsOf, namesAt, namesWords}
 use Rattle.memory.specs.Decode.{nameLimits, nameCounts, namesPart, textsPart, shownBelow, namesIn, lengthsAdd, decode}
 use Rattle.memory.proofs.Limits.{limits-fit, words-fit, memory-limits, memory-long, words-next}
-use Rattle.plans.specs.Undamaged.{Undamaged}
+use Rattle.memory.specs.Undamaged.{Undamaged}
 use Rattle.plans.proofs.Counts.{counts-within}
 
 -- ---- a list of what is shown
@@ -64,7 +64,7 @@ module _ (d : Document) (mem : List ℕ) (u : Undamaged d mem) where
 
   -- the table, lent
   module _ (start : ℕ) (e : start ≡ namesAt (limitsOf (d .limits))) where
-    names-lent : take (start + (d .limits .names + d .limits .names + d .limits .namebytes) - start) (drop start mem) ≡ namesPart d mem
+    pub names-lent : take (start + (d .limits .names + d .limits .names + d .limits .namebytes) - start) (drop start mem) ≡ namesPart d mem
     names-lent =
         let n : d .limits .names + d .limits .names + d .limits .namebytes ≡ 2 * d .limits .names + d .limits .namebytes = omega arith in
         lent mem start (d .limits .names + d .limits .names + d .limits .namebytes) ∙ rw (e, n)

@@ -39,7 +39,7 @@ use Rattle.memory.specs.declared.layout.Document.{Document}
 use Rattle.memory.specs.Layout.{limitsOf, textsAt}
 use Rattle.memory.specs.Decode.{slotOf, kindOf, handleOf, textLimits, textCounts, textsPart, resolvedIn, decode}
 use Rattle.memory.proofs.Limits.{limits-fit, words-fit, memory-limits, memory-long, names-next, words-next}
-use Rattle.plans.specs.Undamaged.{Undamaged}
+use Rattle.memory.specs.Undamaged.{Undamaged}
 use Rattle.plans.proofs.Viewed.{root-kind, kindAt-found, resolves-stale}
 use Rattle.plans.proofs.Texts.{counted, pool-same, text-fits}
 
@@ -109,7 +109,7 @@ module _ (d : Document) (mem : List ℕ) (u : Undamaged d mem) where
 
   -- the pool, lent
   module _ (start : ℕ) (e : start ≡ textsAt (limitsOf (d .limits))) where
-    texts-lent : take (start + (d .limits .texts + d .limits .texts + d .limits .textbytes) - start) (drop start mem) ≡ textsPart d mem
+    pub texts-lent : take (start + (d .limits .texts + d .limits .texts + d .limits .textbytes) - start) (drop start mem) ≡ textsPart d mem
     texts-lent =
         let n : d .limits .texts + d .limits .texts + d .limits .textbytes ≡ 2 * d .limits .texts + d .limits .textbytes = omega arith in
         lent mem start (d .limits .texts + d .limits .texts + d .limits .textbytes) ∙ rw (e, n)

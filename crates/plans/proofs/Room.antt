@@ -11,7 +11,7 @@ use borrow.Author.Tests.{lt-ltb}
 use Rattle.words.specs.Lists.{tabulate}
 use Rattle.words.proofs.Lists.{length-tabulate}
 use Rattle.words.proofs.Tests.{and-left}
-use Rattle.blocks.specs.Arena.{block, hasRoom, arenaOf}
+use Rattle.blocks.specs.Arena.{Block, block, hasRoom, arenaOf}
 use Rattle.blocks.specs.Held.{Held}
 use Rattle.blocks.proofs.Decoded.{held}
 use Rattle.slots.specs.Handles.{wordOf, handleIndex}
@@ -32,7 +32,7 @@ use Rattle.memory.specs.Decode.{blockOf, rangeOf, slotsPart, slotsMade, slotsFr
 use Rattle.memory.proofs.Columns.{length-gens, resolved-found, range-found}
 use Rattle.memory.proofs.Shaped.{length-arenaPart}
 use Rattle.memory.proofs.Arenas.{arena-lent}
-use Rattle.plans.specs.Undamaged.{Undamaged}
+use Rattle.memory.specs.Undamaged.{Undamaged}
 use Rattle.plans.proofs.Viewed.{resolves-found, resolves-stale}
 
 -- ---- a slot
@@ -83,15 +83,16 @@ module _ (d : Document) (mem : List ℕ) (h : NodeId) (hi : h .index < 429496729
       rw own-block at (held (arenaPart d w mem) (entriesOf (d .limits) w) (arenaUsed d w) (h .index) (blockIn D w) (length-arenaPart d mem (u .memory) w) (u .rules .blocks w)),
     )
 
-    pub room-found : (t : Bool) → t ≡ hasRoom (arenaIn d w mem) (blockOf r) → t ≡ (resolves (decode d mem) (wordOf h) && roomFits (decode d mem) w (wordOf h))
-    room-found t k =
+    -- a test of the block, for every handle
+    pub block-found : (f : Block → Bool) (t : Bool) → t ≡ f (blockOf r) → t ≡ (resolves (decode d mem) (wordOf h) && f (rangeIn (decode d mem) w (handleIndex (wordOf h))))
+    block-found f t k =
         k
-        ∙ sym (ap (λ (b : Bool). b && roomFits D w (wordOf h)) (resolves-found d mem h hi hg m e)
-        ∙ ap (λ (i : ℕ). hasRoom (arenaIn d w mem) (rangeIn D w i)) (handleIndex-wordOf h hi)
-        ∙ ap (hasRoom (arenaIn d w mem)) own-range)
+        ∙ sym (ap (λ (b : Bool). b && f (rangeIn D w (handleIndex (wordOf h)))) (resolves-found d mem h hi hg m e)
+        ∙ ap (λ (i : ℕ). f (rangeIn D w i)) (handleIndex-wordOf h hi)
+        ∙ ap f own-range)
 
-  pub room-stale : resolvedIn d mem h ≡ NoNode → false ≡ (resolves (decode d mem) (wordOf h) && roomFits (decode d mem) w (wordOf h))
-  room-stale e = sym (ap (λ (b : Bool). b && roomFits D w (wordOf h)) (resolves-stale d mem h hi hg e))
+  pub block-stale : (f : Block → Bool) → resolvedIn d mem h ≡ NoNode → false ≡ (resolves (decode d mem) (wordOf h) && f (rangeIn (decode d mem) w (handleIndex (wordOf h))))
+  block-stale f e = sym (ap (λ (b : Bool). b && f (rangeIn D w (handleIndex (wordOf h)))) (resolves-stale d mem h hi hg e))
 
 -- ---- a slot and entries
 

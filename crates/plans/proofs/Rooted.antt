@@ -26,7 +26,7 @@ use Rattle.memory.specs.Decode.{blockOf, arenaPart, arenaIn, resolvedIn, decode
 use Rattle.plans.specs.declared.search.Listed.{Listed}
 use Rattle.plans.specs.declared.search.Listed.the-variants.{At, Nowhere}
 use Rattle.plans.specs.Listed.{listedWord}
-use Rattle.plans.specs.Undamaged.{Undamaged}
+use Rattle.memory.specs.Undamaged.{Undamaged}
 use Rattle.plans.proofs.Viewed.{element-kind, resolves-found, resolves-stale}
 use Rattle.plans.proofs.Room.{own-range, block-held}
 

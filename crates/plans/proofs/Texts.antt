@@ -22,7 +22,7 @@ use Rattle.memory.specs.declared.layout.Document.{Document}
 use Rattle.memory.specs.Layout.{limitsOf, textsAt, textsWords}
 use Rattle.memory.specs.Decode.{textLimits, textCounts, textsPart, poolIn, lengthsAdd, decode}
 use Rattle.memory.proofs.Limits.{memory-long, names-next, words-next}
-use Rattle.plans.specs.Undamaged.{Undamaged}
+use Rattle.memory.specs.Undamaged.{Undamaged}
 use Rattle.plans.proofs.Counts.{counts-within}
 
 lengths-add : (d : Document) (mem : List ℕ) → lengthsAdd d mem ≡ true → sum (take (d .counts .texts) (textsPart d mem)) ≡ d .counts .textbytes

@@ -9,6 +9,7 @@ use Rattle.model.specs.Refusals.{numberOf}
 use Rattle.model.specs.declared.Refusal.{Refusal}
 use Rattle.model.specs.declared.Refusal.the-variants.{NotUtf8, InvalidName, InvalidText, BadBuffers, Damaged, Stale, NotAnElement, NotAContainer, NotAChild, NotText, NotRemovable, RootElementExists, WouldCycle, Full, OrderStale}
 use Rattle.model.specs.Arguments.{first}
+use Rattle.model.specs.Calls.{fullUnless}
 use Rattle.model.proofs.Guards.{first-assoc}
 use Rattle.plans.specs.declared.verdict.Verdict.{Verdict}
 use Rattle.plans.specs.declared.verdict.Verdict.the-variants.{Accepted, Refused}
@@ -88,3 +89,7 @@ module _ (v a b x y c : ℕ) (t : Bool) (ea : a ≡ x) (eb : b ≡ y) (e : v ≡
 
 pub first-same : (a b x y v : ℕ) → a ≡ x → b ≡ y → v ≡ first a b → v ≡ first x y
 first-same a b x y v e q k = k ∙ ap (λ (n : ℕ). first n b) e ∙ ap (first x) q
+
+-- Full of what was asked
+pub full-told : (t x : Bool) (v : ℕ) → t ≡ x → v ≡ fullUnless t → v ≡ fullUnless x
+full-told t x v e q = q ∙ ap fullUnless e

@@ -3,26 +3,25 @@ ghost use mathlib.Core.Path.{_≡_};
 ghost use mathlib.Core.Bool.{true, _&&_};
 ghost use lib.ListN.{length};
 ghost use Rattle.slots.specs.Handles.{wordOf};
-ghost use Rattle.texts.specs.Pool.{slotsFor};
 ghost use Rattle.model.specs.Kinds.{children};
 ghost use Rattle.model.specs.Doc.{resolves, viewAt, anyOption};
-ghost use Rattle.model.specs.Arguments.{refuseIf, first};
+ghost use Rattle.model.specs.Arguments.{refuseIf};
 ghost use Rattle.model.specs.Checks.{checkAppendText, checkAppendComment, checkAppendPi, checkAppendElement};
 ghost use mathlib.Core.Option.{none};
 ghost use Rattle.names.specs.Table.{name};
 ghost use Rattle.model.specs.Kinds.{isRoot};
-ghost use Rattle.model.specs.Calls.{fullUnless, textFits, twoFit, nodeFits, nameFitsIn, rootTaken};
+ghost use Rattle.model.specs.Calls.{append-element, append-text, append-comment, append-pi, step, fullUnless, twoFit, nodeFits, nameFitsIn, rootTaken};
 ghost use Rattle.memory.specs.Layout.{memoryOk};
 ghost use Rattle.memory.specs.Decode.{decode};
-ghost use Rattle.plans.specs.Verdicts.{verdictNumber};
-ghost use Rattle.plans.specs.Undamaged.{Undamaged};
+ghost use Rattle.plans.specs.Verdicts.{verdictNumber, refusalNumber};
+ghost use Rattle.memory.specs.Undamaged.{Undamaged};
 use crate::arguments::check_name;
 use crate::arguments::not_utf8;
 use crate::arguments::text_under;
 use crate::arguments::two_not_utf8;
 use crate::full::name_fits;
 use crate::full::node_fits;
-use crate::full::text_fits;
+use crate::full::text_node_fits;
 use crate::full::two_fit;
 use crate::root::root_taken;
 use crate::verdict::Verdict;
@@ -63,26 +62,13 @@ fn check_append_comment(d: Document, mem: &[u64], parent: NodeId, text: &[u8]) -
     }
 }
 
-// Full, of a new child with one text.
-fn text_child_fits(d: Document, mem: &[u64], parent: NodeId, text: &[u8]) -> Verdict
-    requires { ⌜ Undamaged d (now mem) ⌝ }
-    requires { ⌜ resolves (decode d (now mem)) (wordOf parent) ≡ true ⌝ }
-    ensures { λ r. ⌜ verdictNumber r ≡ fullUnless (textFits (decode d (now (mem .entry))) (slotsFor (now (text .entry))) 0 (length (now (text .entry))) && nodeFits (decode d (now (mem .entry))) children (wordOf parent)) ⌝ }
-{
-    if text_fits(d, mem, text) {
-        full_unless(node_fits(d, mem, Arena::Children, parent))
-    } else {
-        full_unless(false)
-    }
-}
-
 pub fn plan_append_text(d: Document, mem: &[u64], parent: NodeId, text: &[u8]) -> Verdict
     requires { ⌜ Undamaged d (now mem) ⌝ }
-    ensures { λ r. ⌜ verdictNumber r ≡ first (checkAppendText (now (text .entry)) (viewAt (decode d (now (mem .entry))) (wordOf parent))) (fullUnless (textFits (decode d (now (mem .entry))) (slotsFor (now (text .entry))) 0 (length (now (text .entry))) && nodeFits (decode d (now (mem .entry))) children (wordOf parent))) ⌝ }
+    ensures { λ r. ⌜ verdictNumber r ≡ refusalNumber (step (append-text (wordOf parent) (now (text .entry))) (decode d (now (mem .entry))) .answer) ⌝ }
 {
     let checked = check_append_text(d, mem, parent, text);
     if is_accepted(checked) {
-        text_child_fits(d, mem, parent, text)
+        text_node_fits(d, mem, Arena::Children, parent, text)
     } else {
         checked
     }
@@ -90,11 +76,11 @@ pub fn plan_append_text(d: Document, mem: &[u64], parent: NodeId, text: &[u8]) -
 
 pub fn plan_append_comment(d: Document, mem: &[u64], parent: NodeId, text: &[u8]) -> Verdict
     requires { ⌜ Undamaged d (now mem) ⌝ }
-    ensures { λ r. ⌜ verdictNumber r ≡ first (checkAppendComment (now (text .entry)) (viewAt (decode d (now (mem .entry))) (wordOf parent))) (fullUnless (textFits (decode d (now (mem .entry))) (slotsFor (now (text .entry))) 0 (length (now (text .entry))) && nodeFits (decode d (now (mem .entry))) children (wordOf parent))) ⌝ }
+    ensures { λ r. ⌜ verdictNumber r ≡ refusalNumber (step (append-comment (wordOf parent) (now (text .entry))) (decode d (now (mem .entry))) .answer) ⌝ }
 {
     let checked = check_append_comment(d, mem, parent, text);
     if is_accepted(checked) {
-        text_child_fits(d, mem, parent, text)
+        text_node_fits(d, mem, Arena::Children, parent, text)
     } else {
         checked
     }
@@ -139,7 +125,7 @@ pub fn plan_append_pi(
     content: &[u8],
 ) -> Verdict
     requires { ⌜ Undamaged d (now mem) ⌝ }
-    ensures { λ r. ⌜ verdictNumber r ≡ first (checkAppendPi (now (target .entry)) (now (content .entry)) (viewAt (decode d (now (mem .entry))) (wordOf parent))) (fullUnless (twoFit (decode d (now (mem .entry))) (now (target .entry)) (now (content .entry)) && nodeFits (decode d (now (mem .entry))) children (wordOf parent))) ⌝ }
+    ensures { λ r. ⌜ verdictNumber r ≡ refusalNumber (step (append-pi (wordOf parent) (now (target .entry)) (now (content .entry))) (decode d (now (mem .entry))) .answer) ⌝ }
 {
     let checked = check_append_pi(d, mem, parent, target, content);
     if is_accepted(checked) {
@@ -200,7 +186,7 @@ pub fn plan_append_element(
     local: &[u8],
 ) -> Verdict
     requires { ⌜ Undamaged d (now mem) ⌝ }
-    ensures { λ r. ⌜ verdictNumber r ≡ first (checkAppendElement (now (namespace .entry)) (now (local .entry)) (viewAt (decode d (now (mem .entry))) (wordOf parent)) (rootTaken (decode d (now (mem .entry))) none)) (fullUnless (nameFitsIn (decode d (now (mem .entry))) (name (now (namespace .entry)) (now (local .entry))) && nodeFits (decode d (now (mem .entry))) children (wordOf parent))) ⌝ }
+    ensures { λ r. ⌜ verdictNumber r ≡ refusalNumber (step (append-element (wordOf parent) (now (namespace .entry)) (now (local .entry))) (decode d (now (mem .entry))) .answer) ⌝ }
 {
     let checked = check_append_element(d, mem, parent, namespace, local);
     if is_accepted(checked) {

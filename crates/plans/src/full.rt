@@ -2,7 +2,7 @@
 ghost use mathlib.Core.Path.{_≡_};
 ghost use mathlib.Core.Bool.{true, _&&_};
 ghost use mathlib.Core.List.{List};
-ghost use Prim.Native.Nat.{ℕ, _+_, _≤_};
+ghost use Prim.Native.Nat.{ℕ, _≤_};
 ghost use lib.ListN.{length};
 ghost use Rattle.blocks.specs.Arena.{hasRoom};
 ghost use Rattle.blocks.specs.Held.{Held};
@@ -11,10 +11,13 @@ ghost use Rattle.texts.specs.Pool.{slotsFor};
 ghost use Rattle.texts.specs.Words.{countsFit};
 ghost use Rattle.model.specs.Doc.{resolves};
 ghost use Rattle.names.specs.Table.{name};
-ghost use Rattle.model.specs.Calls.{slotFits, roomFits, nodeFits, textFits, twoFit, nameFitsIn};
+ghost use Rattle.model.specs.Calls.{fullUnless, slotFits, roomFits, nodeFits, textFits, twoFit, nameFitsIn};
 ghost use Rattle.memory.specs.Layout.{whichOf, limitsOf, memoryOk};
 ghost use Rattle.memory.specs.Decode.{blockOf, arenaPart, arenaUsed, arenaIn, textLimits, textCounts, decode};
-ghost use Rattle.plans.specs.Undamaged.{Undamaged};
+ghost use Rattle.plans.specs.Verdicts.{verdictNumber};
+ghost use Rattle.memory.specs.Undamaged.{Undamaged};
+use crate::verdict::Verdict;
+use crate::verdict::full_unless;
 use memory::layout::Arena;
 use memory::layout::Document;
 use memory::layout::arena_at;
@@ -143,4 +146,17 @@ pub fn name_fits(d: Document, mem: &[u64], namespace: &[u8], local: &[u8]) -> bo
     let start = names_at(l);
     let end = start + (l.names + l.names + l.namebytes);
     names::interning::name_fits(&mem[start..end], limits, counts, namespace, local)
+}
+
+// Full, of a new node with one text in the list of a live node.
+pub fn text_node_fits(d: Document, mem: &[u64], arena: Arena, id: NodeId, text: &[u8]) -> Verdict
+    requires { ⌜ Undamaged d (now mem) ⌝ }
+    requires { ⌜ resolves (decode d (now mem)) (wordOf id) ≡ true ⌝ }
+    ensures { λ r. ⌜ verdictNumber r ≡ fullUnless (textFits (decode d (now (mem .entry))) (slotsFor (now (text .entry))) 0 (length (now (text .entry))) && nodeFits (decode d (now (mem .entry))) (whichOf arena) (wordOf id)) ⌝ }
+{
+    if text_fits(d, mem, text) {
+        full_unless(node_fits(d, mem, arena, id))
+    } else {
+        full_unless(false)
+    }
 }

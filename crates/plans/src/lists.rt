@@ -3,19 +3,21 @@ ghost use mathlib.Core.Path.{_≡_};
 ghost use mathlib.Core.Bool.{true, _&&_};
 ghost use lib.ListN.{length};
 ghost use Rattle.slots.specs.Handles.{wordOf};
-ghost use Rattle.model.specs.Kinds.{namespaces};
+ghost use Rattle.texts.specs.Pool.{slotsFor};
+ghost use Rattle.names.specs.Table.{name};
+ghost use Rattle.model.specs.Kinds.{attributes, namespaces};
 ghost use Rattle.model.specs.Doc.{resolves, viewAt};
-ghost use Rattle.model.specs.Checks.{checkRemoveAttribute, checkDeclareNamespace, checkSetAttribute};
-ghost use Rattle.model.specs.Calls.{fullUnless, twoFit, nodeFits};
+ghost use Rattle.model.specs.Checks.{checkRemoveAttribute, checkDeclareNamespace};
+ghost use Rattle.model.specs.Calls.{fullUnless, textFits, twoFit, nameFitsIn, nodeFits};
 ghost use Rattle.memory.specs.Layout.{memoryOk};
 ghost use Rattle.memory.specs.Decode.{decode};
 ghost use Rattle.plans.specs.Verdicts.{verdictNumber};
-ghost use Rattle.plans.specs.Undamaged.{Undamaged};
-use crate::arguments::check_attribute;
+ghost use Rattle.memory.specs.Undamaged.{Undamaged};
 use crate::arguments::check_binding;
-use crate::arguments::three_not_utf8;
 use crate::arguments::two_not_utf8;
+use crate::full::name_fits;
 use crate::full::node_fits;
+use crate::full::text_node_fits;
 use crate::full::two_fit;
 use crate::verdict::Verdict;
 use crate::verdict::first;
@@ -26,8 +28,7 @@ use memory::layout::Arena;
 use memory::layout::Document;
 use slots::NodeId;
 
-// Never Full: where there is no such attribute, nothing is done.
-pub fn plan_remove_attribute(
+pub fn check_remove_attribute(
     d: Document,
     mem: &[u64],
     element: NodeId,
@@ -58,27 +59,23 @@ pub fn check_declare_namespace(
     }
 }
 
-// Found: the element has an attribute of this pair; only a new one has its local part tested.
-pub fn check_set_attribute(
+// Full, of a new attribute.
+pub fn new_attribute_fits(
     d: Document,
     mem: &[u64],
     element: NodeId,
     namespace: &[u8],
     local: &[u8],
     value: &[u8],
-    found: bool,
 ) -> Verdict
-    requires { ⌜ memoryOk d (length (now mem)) ≡ true ⌝ }
-    ensures { λ r. ⌜ verdictNumber r ≡ checkSetAttribute (now (namespace .entry)) (now (local .entry)) (now (value .entry)) (viewAt (decode d (now (mem .entry))) (wordOf element)) found ⌝ }
+    requires { ⌜ Undamaged d (now mem) ⌝ }
+    requires { ⌜ resolves (decode d (now mem)) (wordOf element) ≡ true ⌝ }
+    ensures { λ r. ⌜ verdictNumber r ≡ fullUnless (nameFitsIn (decode d (now (mem .entry))) (name (now (namespace .entry)) (now (local .entry))) && (textFits (decode d (now (mem .entry))) (slotsFor (now (value .entry))) 0 (length (now (value .entry))) && nodeFits (decode d (now (mem .entry))) attributes (wordOf element))) ⌝ }
 {
-    let place = first(
-        three_not_utf8(namespace, local, value),
-        an_element(d, mem, element),
-    );
-    if is_accepted(place) {
-        check_attribute(namespace, local, value, found)
+    if name_fits(d, mem, namespace, local) {
+        text_node_fits(d, mem, Arena::Attributes, element, value)
     } else {
-        place
+        full_unless(false)
     }
 }
 

@@ -3,11 +3,10 @@ ghost use mathlib.Core.Path.{_≡_};
 ghost use mathlib.Core.Bool.{true};
 ghost use lib.ListN.{length};
 ghost use Rattle.slots.specs.Handles.{wordOf};
-ghost use Rattle.model.specs.Doc.{viewAt};
-ghost use Rattle.model.specs.Checks.{checkRemove, checkDetach};
+ghost use Rattle.model.specs.Calls.{remove, detach, step};
 ghost use Rattle.memory.specs.Layout.{memoryOk};
 ghost use Rattle.memory.specs.Decode.{decode};
-ghost use Rattle.plans.specs.Verdicts.{verdictNumber};
+ghost use Rattle.plans.specs.Verdicts.{verdictNumber, refusalNumber};
 use crate::verdict::Verdict;
 use crate::verdict::refuse_if;
 use crate::views::a_child;
@@ -20,7 +19,7 @@ use slots::NodeId;
 
 pub fn plan_remove(d: Document, mem: &[u64], node: NodeId) -> Verdict
     requires { ⌜ memoryOk d (length (now mem)) ≡ true ⌝ }
-    ensures { λ r. ⌜ verdictNumber r ≡ checkRemove (viewAt (decode d (now (mem .entry))) (wordOf node)) ⌝ }
+    ensures { λ r. ⌜ verdictNumber r ≡ refusalNumber (step (remove (wordOf node)) (decode d (now (mem .entry))) .answer) ⌝ }
 {
     match resolve(d, mem, node) {
         Loaded::Found(found) => {
@@ -33,7 +32,7 @@ pub fn plan_remove(d: Document, mem: &[u64], node: NodeId) -> Verdict
 
 pub fn plan_detach(d: Document, mem: &[u64], node: NodeId) -> Verdict
     requires { ⌜ memoryOk d (length (now mem)) ≡ true ⌝ }
-    ensures { λ r. ⌜ verdictNumber r ≡ checkDetach (viewAt (decode d (now (mem .entry))) (wordOf node)) ⌝ }
+    ensures { λ r. ⌜ verdictNumber r ≡ refusalNumber (step (detach (wordOf node)) (decode d (now (mem .entry))) .answer) ⌝ }
 {
     a_child(d, mem, node)
 }

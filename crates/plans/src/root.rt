@@ -13,7 +13,7 @@ ghost use Rattle.model.specs.Calls.{rootTaken};
 ghost use Rattle.memory.specs.Layout.{memoryOk};
 ghost use Rattle.memory.specs.Decode.{blockOf, arenaIn, decode};
 ghost use Rattle.plans.specs.Listed.{listedWord};
-ghost use Rattle.plans.specs.Undamaged.{Undamaged};
+ghost use Rattle.memory.specs.Undamaged.{Undamaged};
 use crate::search::Listed;
 use crate::views::is_element;
 use memory::layout::Arena;

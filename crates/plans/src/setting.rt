@@ -7,12 +7,11 @@ ghost use lib.ListN.{length};
 ghost use Rattle.slots.specs.Handles.{wordOf};
 ghost use Rattle.model.specs.Kinds.{replaceable};
 ghost use Rattle.model.specs.Doc.{resolves, viewAt, bytesAt, orElse};
-ghost use Rattle.model.specs.Arguments.{first};
 ghost use Rattle.model.specs.Checks.{checkSetText};
-ghost use Rattle.model.specs.Calls.{fullUnless, underRoot, replacementFits, replaceableAt};
+ghost use Rattle.model.specs.Calls.{set-text, step, fullUnless, underRoot, replacementFits, replaceableAt};
 ghost use Rattle.memory.specs.Decode.{slotOf, kindOf, decode};
-ghost use Rattle.plans.specs.Verdicts.{verdictNumber};
-ghost use Rattle.plans.specs.Undamaged.{Undamaged};
+ghost use Rattle.plans.specs.Verdicts.{verdictNumber, refusalNumber};
+ghost use Rattle.memory.specs.Undamaged.{Undamaged};
 use crate::arguments::not_utf8;
 use crate::arguments::text_under;
 use crate::full::text_fits;
@@ -128,7 +127,7 @@ pub fn replacing_fits(d: Document, mem: &[u64], id: NodeId, text: &[u8]) -> Verd
 
 pub fn plan_set_text(d: Document, mem: &[u64], id: NodeId, text: &[u8]) -> Verdict
     requires { ⌜ Undamaged d (now mem) ⌝ }
-    ensures { λ r. ⌜ verdictNumber r ≡ first (checkSetText (now (text .entry)) (viewAt (decode d (now (mem .entry))) (wordOf id)) (underRoot (decode d (now (mem .entry))) (wordOf id))) (fullUnless (replacementFits (decode d (now (mem .entry))) (replaceableAt (decode d (now (mem .entry))) (wordOf id)) (now (text .entry)))) ⌝ }
+    ensures { λ r. ⌜ verdictNumber r ≡ refusalNumber (step (set-text (wordOf id) (now (text .entry))) (decode d (now (mem .entry))) .answer) ⌝ }
 {
     let checked = check_set_text(d, mem, id, text);
     if is_accepted(checked) {

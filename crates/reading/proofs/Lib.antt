@@ -5,3 +5,4 @@ pub mod Keyed
 pub mod Elements
 pub mod Live
 pub mod Texts
+pub mod Orders

@@ -5,8 +5,10 @@ use mathlib.Core.List.{List, []}
 use Prim.Native.Nat.{ℕ, _+_}
 use lib.ListN.{length, take}
 use lib.Dec.{leb}
+use Rattle.words.specs.Lists.{tabulate}
 use Rattle.blocks.specs.Arena.{Block, block, listOf}
 use Rattle.slots.specs.Handles.{wordOf}
+use Rattle.slots.specs.Regions.{orderAt}
 use Rattle.model.specs.Refusals.{numberOf}
 use Rattle.texts.specs.Words.{textShown}
 use Rattle.names.specs.Table.{name}
@@ -15,7 +17,7 @@ use Rattle.model.specs.Kinds.{Which, attributes, namespaces, mapKind}
 use Rattle.model.specs.Calls.{Answered, refused, made, truth, node, listed, everyNode, kindIs, nameIs, key}
 use Rattle.memory.specs.declared.layout.Document.{Document}
 use Rattle.memory.specs.Layout.{memoryOk}
-use Rattle.memory.specs.Decode.{kindOf, blockOf, elementRange, arenaUsed, arenaIn, textLimits, textCounts, textsPart, nameLimits, nameCounts, namesPart}
+use Rattle.memory.specs.Decode.{kindOf, blockOf, elementRange, slotsPart, slotsMade, arenaUsed, arenaIn, textLimits, textCounts, textsPart, nameLimits, nameCounts, namesPart}
 use Rattle.reading.specs.declared.answers.TruthAnswer.{TruthAnswer}
 use Rattle.reading.specs.declared.answers.TruthAnswer.the-variants as truthAnswer
 use Rattle.reading.specs.declared.answers.NodeAnswer.{NodeAnswer}
@@ -91,3 +93,7 @@ textBytes d mem t = cond (memoryOk d (length mem)) (textIn d mem t) []
 
 unfoldable pub nameBytes : Document → List ℕ → ℕ → ℕ → List ℕ
 nameBytes d mem n k = cond (memoryOk d (length mem)) (namePart d mem n k) []
+
+-- the order words of the slots made
+unfoldable pub orderShown : Document → List ℕ → List ℕ
+orderShown d mem = cond (memoryOk d (length mem)) (tabulate (orderAt (d .limits .nodes) (slotsPart d mem)) (slotsMade d)) []

@@ -8,7 +8,7 @@ ghost use Rattle.slots.specs.Regions.{orderAt};
 ghost use Rattle.model.specs.Calls.{key, keyOf, refused, root-of, order-key};
 ghost use Rattle.memory.specs.Layout.{memoryOk};
 ghost use Rattle.memory.specs.Decode.{slotsPart};
-ghost use Rattle.reading.specs.Answers.{ofRoot, ofKey};
+ghost use Rattle.reading.specs.Answers.{ofRoot, ofKey, orderShown};
 ghost use Rattle.reading.specs.Contract.{reads};
 use crate::answers::KeyAnswer;
 use crate::answers::RootAnswer;
@@ -59,5 +59,19 @@ pub fn order_key(d: Document, mem: &[u64], id: NodeId) -> KeyAnswer
         }
     } else {
         KeyAnswer::Refused(Refusal::BadBuffers)
+    }
+}
+
+// The order words of the slots made, as a part of the memory. Rules out words of slots that were never made, and those of a record.
+pub fn order_words(d: Document, mem: &[u64]) -> &[u64]
+    ensures { λ r. ⌜ now r ≡ orderShown d (now (mem .entry)) ⌝ }
+{
+    if memory::layout::memory_ok(d, mem.len()) {
+        let l = d.limits;
+        let start = 14 * l.nodes;
+        let end = start + memory::read::made(d);
+        &mem[start..end]
+    } else {
+        &mem[..0]
     }
 }

@@ -10,8 +10,10 @@ use borrow.Author.Tests.{ne-eqb}
 use lib.Dec.{eqb, leb}
 use lib.ListN.{length}
 use Rattle.words.proofs.Tests.{and-left}
-use Rattle.model.specs.Doc.{Doc, Limits, limitsOk, fresh, rootHandle}
-use Rattle.model.specs.Calls.{Call, Answered, refused, answers, step, append-element, append-text, append-comment, append-pi, set-text, set-attribute, remove-attribute, declare-namespace, remove, detach, reparent, insert-at, document-order, compact, root-of, kind-of, parent-of, children-of, root-element, is-element, name-of, attribute-nodes, namespace-nodes, nodes, order-key}
+use Rattle.words.specs.Lists.{all}
+use Rattle.model.specs.Doc.{Doc, Limits, limitsOk, fresh, rootHandle, resolves}
+use Rattle.model.specs.Resolving.{handlesOf}
+use Rattle.model.specs.Calls.{Call, Answered, refused, isRefusal, answers, step, append-element, append-text, append-comment, append-pi, set-text, set-attribute, remove-attribute, declare-namespace, remove, detach, reparent, insert-at, document-order, compact, root-of, kind-of, parent-of, children-of, root-element, is-element, name-of, attribute-nodes, namespace-nodes, nodes, order-key}
 use Rattle.model.specs.Calls as calls
 use Rattle.model.specs.RulesTest.{rulesHold}
 use Rattle.model.specs.Tree.{Tree, seed}
@@ -35,7 +37,8 @@ use Rattle.memory.specs.declared.layout.Limits as given
 use Rattle.memory.specs.Layout.{limitsOf, documentWords, memoryOk, buffersOk}
 use Rattle.memory.specs.Decode.{decode}
 use Rattle.reading.specs.Contract.{reads}
-use Rattle.tree.specs.Contract.{isEditing, isRefusal, outcome, Edits, startable, Starts}
+use Rattle.editing.specs.Contract.{isEditing, outcome, Edits}
+use Rattle.tree.specs.Contract.{startable, Starts}
 use Rattle.tree.specs.Claim.{Event, Promised, PromisedBy, Called, noStep, treeAfter, outOf, Tells, Holds, PlainTree, DemandThree}
 
 -- a reading call leaves the document
@@ -66,46 +69,36 @@ reading-keeps (namespace-nodes h) d e = refl
 reading-keeps nodes d e = refl
 reading-keeps (order-key h) d e = refl
 
--- the two names of a refusal are one
-same-refusal : (a : Answered) → isRefusal a ≡ true → refusals.isRefusal a ≡ true
-same-refusal (refused n) e = refl
-same-refusal calls.done e = e
-same-refusal (calls.made h) e = e
-same-refusal (calls.truth b) e = e
-same-refusal (calls.node h) e = e
-same-refusal (calls.listed r l) e = e
-same-refusal (calls.everyNode l) e = e
-same-refusal (calls.kindIs k a n) e = e
-same-refusal (calls.nameIs n) e = e
-same-refusal (calls.key k) e = e
-same-refusal (calls.keys l) e = e
+-- a handle of the call is stale
+abbrev StaleIn : Doc → Call → Type 0
+StaleIn D c = all (resolves D) (handlesOf c) ≡ false
 
 -- past test 4, no step is the same as Full
-tested-step : (a : Answered) → Tested a → noStep a ≡ isFull a
-tested-step (refused n) t = ap (λ (q : Bool). q || eqb n 14) (ne-eqb n 4 (t .0))
-tested-step calls.done t = refl
-tested-step (calls.made h) t = refl
-tested-step (calls.truth b) t = refl
-tested-step (calls.node h) t = refl
-tested-step (calls.listed r l) t = refl
-tested-step (calls.everyNode l) t = refl
-tested-step (calls.kindIs k a n) t = refl
-tested-step (calls.nameIs n) t = refl
-tested-step (calls.key k) t = refl
-tested-step (calls.keys l) t = refl
+tested-step : (S : Type 0) (a : Answered) → Tested S a → noStep a ≡ isFull a
+tested-step S (refused n) t = ap (λ (q : Bool). q || eqb n 14) (ne-eqb n 4 (t .0))
+tested-step S calls.done t = refl
+tested-step S (calls.made h) t = refl
+tested-step S (calls.truth b) t = refl
+tested-step S (calls.node h) t = refl
+tested-step S (calls.listed r l) t = refl
+tested-step S (calls.everyNode l) t = refl
+tested-step S (calls.kindIs k a n) t = refl
+tested-step S (calls.nameIs n) t = refl
+tested-step S (calls.key k) t = refl
+tested-step S (calls.keys l) t = refl
 
-not-damaged : (a : Answered) → Tested a → a ≢ refused 5
-not-damaged (refused n) t e = t .1 (let q : n ≡ 5 = cc in q)
-not-damaged calls.done t e = (let z : _≡_ {A = ℕ} 0 1 = cc in omega arith)
-not-damaged (calls.made h) t e = (let z : _≡_ {A = ℕ} 0 1 = cc in omega arith)
-not-damaged (calls.truth b) t e = (let z : _≡_ {A = ℕ} 0 1 = cc in omega arith)
-not-damaged (calls.node h) t e = (let z : _≡_ {A = ℕ} 0 1 = cc in omega arith)
-not-damaged (calls.listed r l) t e = (let z : _≡_ {A = ℕ} 0 1 = cc in omega arith)
-not-damaged (calls.everyNode l) t e = (let z : _≡_ {A = ℕ} 0 1 = cc in omega arith)
-not-damaged (calls.kindIs k a n) t e = (let z : _≡_ {A = ℕ} 0 1 = cc in omega arith)
-not-damaged (calls.nameIs n) t e = (let z : _≡_ {A = ℕ} 0 1 = cc in omega arith)
-not-damaged (calls.key k) t e = (let z : _≡_ {A = ℕ} 0 1 = cc in omega arith)
-not-damaged (calls.keys l) t e = (let z : _≡_ {A = ℕ} 0 1 = cc in omega arith)
+not-damaged : (S : Type 0) (a : Answered) → Tested S a → a ≢ refused 5
+not-damaged S (refused n) t e = t .1 (let q : n ≡ 5 = cc in q)
+not-damaged S calls.done t e = (let z : _≡_ {A = ℕ} 0 1 = cc in omega arith)
+not-damaged S (calls.made h) t e = (let z : _≡_ {A = ℕ} 0 1 = cc in omega arith)
+not-damaged S (calls.truth b) t e = (let z : _≡_ {A = ℕ} 0 1 = cc in omega arith)
+not-damaged S (calls.node h) t e = (let z : _≡_ {A = ℕ} 0 1 = cc in omega arith)
+not-damaged S (calls.listed r l) t e = (let z : _≡_ {A = ℕ} 0 1 = cc in omega arith)
+not-damaged S (calls.everyNode l) t e = (let z : _≡_ {A = ℕ} 0 1 = cc in omega arith)
+not-damaged S (calls.kindIs k a n) t e = (let z : _≡_ {A = ℕ} 0 1 = cc in omega arith)
+not-damaged S (calls.nameIs n) t e = (let z : _≡_ {A = ℕ} 0 1 = cc in omega arith)
+not-damaged S (calls.key k) t e = (let z : _≡_ {A = ℕ} 0 1 = cc in omega arith)
+not-damaged S (calls.keys l) t e = (let z : _≡_ {A = ℕ} 0 1 = cc in omega arith)
 
 -- an event that was refused 4 and changed nothing, or one that made the call's step on the document
 pub data Made (d : Document) (mem : List ℕ) (e : Event) : Type 0 where
@@ -136,7 +129,7 @@ module _ (d : Document) (mem : List ℕ) (e : Event) (fits : memoryOk d (length 
           → (isRefusal (e .answer) ≡ false → decode (e .document) (e .memory) ≡ step (e .call) D .doc) → decode (e .document) (e .memory) ≡ step (e .call) D .doc
       doc-after false f a h = h f
       doc-after true f a h =
-          again (e .memory) (e .document) (p .kept f) ∙ sym (refusals.refusal-keeps (e .call) D (same-refusal (step (e .call) D .answer) (sym (ap isRefusal a) ∙ f)))
+          again (e .memory) (e .document) (p .kept f) ∙ sym (refusals.refusal-keeps (e .call) D (sym (ap isRefusal a) ∙ f))
 
       go : (q : Bool) → buffersOk d (length mem) (length (e .scratch)) ≡ q → Made d mem e
       go false f =
@@ -148,12 +141,12 @@ module _ (d : Document) (mem : List ℕ) (e : Event) (fits : memoryOk d (length 
           let h : isRefusal (e .answer) ≡ false → decode (e .document) (e .memory) ≡ step (e .call) D .doc = λ r. p .after r ∙ rw (f, rules) in
           stepped (same-out (e .answer) (decode (e .document) (e .memory)) (step (e .call) D) a (doc-after (isRefusal (e .answer)) refl a h)) (same-size (e .document) (e .memory) (p .limits) (p .lent))
 
-  read : isEditing (e .call) ≡ false → ((e .answer ≡ reads (e .call) d mem) ⊎ (e .answer ≡ refused 4)) × (e .document ≡ d) × (e .memory ≡ mem) → Made d mem e
+  read : isEditing (e .call) ≡ false → ((e .answer ≡ reads (e .call) d mem) ⊎ ((e .call ≡ nodes) × (e .answer ≡ refused 4))) × (e .document ≡ d) × (e .memory ≡ mem) → Made d mem e
   unfolding reads
   read r p = go (p .0)
     where
-      go : (e .answer ≡ cond (memoryOk d (length mem)) (step (e .call) (decode d mem) .answer) (refused 4)) ⊎ (e .answer ≡ refused 4) → Made d mem e
-      go (inr a) = nothing a (p .1) (p .2)
+      go : (e .answer ≡ cond (memoryOk d (length mem)) (step (e .call) (decode d mem) .answer) (refused 4)) ⊎ ((e .call ≡ nodes) × (e .answer ≡ refused 4)) → Made d mem e
+      go (inr a) = nothing (a .1) (p .1) (p .2)
       go (inl a) =
           stepped
           (same-out (e .answer) (decode (e .document) (e .memory)) (step (e .call) (decode d mem)) (a ∙ rw fits)
@@ -199,7 +192,7 @@ module _ (hs : ℕ → ℕ) where
       go (stepped o k) =
           let a : e .answer ≡ step (e .call) D .answer = ap (λ (x : calls.Out). x .answer) o in
           let T = tested (e .call) D in
-          let s : noStep (e .answer) ≡ isFull (step (e .call) D .answer) = ap noStep a ∙ tested-step (step (e .call) D .answer) T in
+          let s : noStep (e .answer) ≡ isFull (step (e .call) D .answer) = ap noStep a ∙ tested-step (StaleIn D (e .call)) (step (e .call) D .answer) T in
           let u : treeAfter hs e t ≡ model.treeAfter hs (e .call) D t = ap (λ (q : Bool). cond q t (tree.step (e .call) hs t .tree)) s in
           let h : t .births < model.treeAfter hs (e .call) D t .births → hs (t .births) ≡ handleTold (e .call) (step (e .call) D) =
           λ lt. told (subst (λ (x : Tree). t .births < x .births) (sym u) lt) ∙ ap (handleTold (e .call)) o in
@@ -209,7 +202,7 @@ module _ (hs : ℕ → ℕ) where
               wf = subst WF (sym u) (n .1);
               fits = k;
             },
-            subst (λ (x : Answered). x ≢ refused 5) (sym a) (not-damaged (step (e .call) D .answer) T),
+            subst (λ (x : Answered). x ≢ refused 5) (sym a) (not-damaged (StaleIn D (e .call)) (step (e .call) D .answer) T),
             λ f. subst (λ (x : calls.Out). Agrees hs (e .call) x (tree.step (e .call) hs t)) (sym o) (n .2 (sym s ∙ f)),
           )
 
@@ -239,18 +232,18 @@ abbrev callsOf : List Event → List Call
 callsOf [] = []
 callsOf (e ∷ es) = cond (isFour (e .answer)) (callsOf es) (e .call ∷ callsOf es)
 
-tested-four : (a : Answered) → Tested a → isFour a ≡ false
-tested-four (refused n) t = ne-eqb n 4 (t .0)
-tested-four calls.done t = refl
-tested-four (calls.made h) t = refl
-tested-four (calls.truth b) t = refl
-tested-four (calls.node h) t = refl
-tested-four (calls.listed r l) t = refl
-tested-four (calls.everyNode l) t = refl
-tested-four (calls.kindIs k a n) t = refl
-tested-four (calls.nameIs n) t = refl
-tested-four (calls.key k) t = refl
-tested-four (calls.keys l) t = refl
+tested-four : (S : Type 0) (a : Answered) → Tested S a → isFour a ≡ false
+tested-four S (refused n) t = ne-eqb n 4 (t .0)
+tested-four S calls.done t = refl
+tested-four S (calls.made h) t = refl
+tested-four S (calls.truth b) t = refl
+tested-four S (calls.node h) t = refl
+tested-four S (calls.listed r l) t = refl
+tested-four S (calls.everyNode l) t = refl
+tested-four S (calls.kindIs k a n) t = refl
+tested-four S (calls.nameIs n) t = refl
+tested-four S (calls.key k) t = refl
+tested-four S (calls.keys l) t = refl
 
 module _ (hs : ℕ → ℕ) where
   -- handles told for the calls on the document are told for the events
@@ -274,18 +267,22 @@ module _ (hs : ℕ → ℕ) where
       go (stepped q k) o rest =
           let a : e .answer ≡ step (e .call) D .answer = ap (λ (x : calls.Out). x .answer) q in
           let T = tested (e .call) D in
-          let s : noStep (e .answer) ≡ isFull (step (e .call) D .answer) = ap noStep a ∙ tested-step (step (e .call) D .answer) T in
+          let s : noStep (e .answer) ≡ isFull (step (e .call) D .answer) = ap noStep a ∙ tested-step (StaleIn D (e .call)) (step (e .call) D .answer) T in
           let u : treeAfter hs e t ≡ model.treeAfter hs (e .call) D t = ap (λ (x : Bool). cond x t (tree.step (e .call) hs t .tree)) s in
-          let f : isFour (e .answer) ≡ false = ap isFour a ∙ tested-four (step (e .call) D .answer) T in
+          let f : isFour (e .answer) ≡ false = ap isFour a ∙ tested-four (StaleIn D (e .call)) (step (e .call) D .answer) T in
           let o′ : model.Tells hs (e .call ∷ callsOf es) D t = subst (λ (x : Bool). model.Tells hs (cond x (callsOf es) (e .call ∷ callsOf es)) D t) f o in
           let h : Head hs e t = λ lt. o′ .0 (subst (λ (x : Tree). t .births < x .births) u lt) ∙ sym (ap (handleTold (e .call)) q) in
           (h, rest h (subst (λ (x : Tree). model.Tells hs (callsOf es) (decode (e .document) (e .memory)) x) (sym u) (subst (λ (x : Doc). model.Tells hs (callsOf es) x (model.treeAfter hs (e .call) D t)) (sym (ap (λ (x : calls.Out). x .doc) q)) (o′ .1))))
 
 -- ---- the theorem
 
-module _ (l : given.Limits) (mem mem′ : List ℕ) (d : Document) (S : Starts l mem true d mem′) where
+module _ (l : given.Limits) (mem mem′ : List ℕ) (d : Document) (S : Starts l mem calls.done d mem′) where
   start-fits : startable l (length mem) ≡ true
-  start-fits = sym (S .answer)
+  start-fits = go (startable l (length mem)) (S .answer)
+    where
+      go : (t : Bool) → _≡_ {A = Answered} calls.done (cond t calls.done (refused 4)) → t ≡ true
+      go true e = refl
+      go false e = absurd (let z : _≡_ {A = ℕ} 0 1 = cc in omega arith)
 
   limits-fit : limitsOk (limitsOf l) ≡ true
   unfolding startable

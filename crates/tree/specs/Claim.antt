@@ -7,7 +7,7 @@ use mathlib.Core.List.{List, [], _∷_}
 use Prim.Native.Nat.{ℕ, _<_}
 use lib.Dec.{eqb}
 use Rattle.model.specs.Doc.{rootHandle}
-use Rattle.model.specs.Calls.{Call, Answered, refused, answers}
+use Rattle.model.specs.Calls.{Call, nodes, Answered, refused, done, answers}
 use Rattle.model.specs.Calls as calls
 use Rattle.model.specs.Tree.{Tree, seed}
 use Rattle.model.specs.Tree as tree
@@ -16,7 +16,8 @@ use Rattle.memory.specs.declared.layout.Document.{Document}
 use Rattle.memory.specs.declared.layout.Limits as given
 use Rattle.memory.specs.Decode.{decode}
 use Rattle.reading.specs.Contract.{reads}
-use Rattle.tree.specs.Contract.{isEditing, Edits, Starts}
+use Rattle.editing.specs.Contract.{isEditing, Edits}
+use Rattle.tree.specs.Contract.{Starts}
 
 -- ---- a list of calls
 
@@ -33,7 +34,7 @@ pub record Event : Type 0 where
 abbrev pub PromisedBy : Bool → Document → List ℕ → Event → Type 0
 PromisedBy true d mem e = Edits (e .call) d mem (e .scratch) (e .answer) (e .document) (e .memory) (e .scratchAfter)
 PromisedBy false d mem e =
-    ((e .answer ≡ reads (e .call) d mem) ⊎ (e .answer ≡ refused 4)) × (e .document ≡ d) × (e .memory ≡ mem)
+    ((e .answer ≡ reads (e .call) d mem) ⊎ ((e .call ≡ nodes) × (e .answer ≡ refused 4))) × (e .document ≡ d) × (e .memory ≡ mem)
 
 abbrev pub Promised : Document → List ℕ → Event → Type 0
 Promised d mem e = PromisedBy (isEditing (e .call)) d mem e
@@ -91,4 +92,4 @@ pub record PlainTree (d : Document) (mem : List ℕ) (es : List Event) : Type 0 
 
 abbrev pub DemandThree : Type 0
 DemandThree =
-    (l : given.Limits) (mem mem′ : List ℕ) (d : Document) → Starts l mem true d mem′ → (es : List Event) → Called d mem′ es → PlainTree d mem′ es
+    (l : given.Limits) (mem mem′ : List ℕ) (d : Document) → Starts l mem done d mem′ → (es : List Event) → Called d mem′ es → PlainTree d mem′ es

@@ -10,16 +10,17 @@ use lib.Seq.{length-take-le}
 use lib.Dec.{leb}
 use borrow.Author.Tests.{leb-true}
 use Rattle.words.specs.Parts.{part, put}
-use Rattle.words.proofs.Parts.{length-part, part-add, drop-part, length-put, part-put-same, part-put-after, put-put, put-same, put-left}
+use Rattle.words.proofs.Parts.{length-part, part-add, drop-part, length-put, part-put-same, part-put-after, drop-put-after, put-put, put-same, put-left}
 use Rattle.words.proofs.Tests.{and-left, and-right}
 use Rattle.slots.specs.Regions.{orderStart, clearOrder}
+use Rattle.model.specs.Kinds.{children}
 use Rattle.model.specs.Doc.{Doc, noKey}
-use Rattle.model.specs.Rules.{Rules}
 use Rattle.model.specs.Edits.{keyed, ordered, orderOf, renewOrder}
 use Rattle.memory.specs.declared.layout.Document.{Document}
-use Rattle.memory.specs.Layout.{limitsOf, scratchWords, memoryOk, buffersOk}
+use Rattle.memory.specs.Layout.{limitsOf, documentWords, scratchWords, memoryOk, buffersOk}
 use Rattle.memory.specs.Decode.{slotsMade, poolIn, namesIn, lengthsAdd, decode}
-use Rattle.memory.proofs.Limits.{sizes}
+use Rattle.memory.specs.Step.{Step}
+use Rattle.memory.proofs.Limits.{sizes, arena-behind-slots, arena-inside, names-next, words-next}
 use Rattle.memory.proofs.Columns.{length-gens}
 use Rattle.walks.specs.Order.{putOrders, putKeys, clearKeys, renewed, Walkable}
 use Rattle.walks.proofs.Orders.{withOrder, order-words, length-order, length-putOrders, decode-putOrders, putOrders-again, length-keyed}
@@ -90,17 +91,8 @@ module _ (d : Document) (mem : List ℕ) (ok : memoryOk d (length mem) ≡ true)
 
   -- ---- the rules that the walk uses hold with no keys
 
-  walkable : Rules (decode d mem) → Walkable (decode d mem)
-  walkable r = record {
-    entries = r .entries;
-    blocks = r .blocks;
-    root = rw (r .fields .rootGeneration, r .fields .rootKind);
-    top = r .fields .rootParent;
-  }
-
-  pub walkable-cleared : Rules (decode d mem) → (mem′ : List ℕ) → mem′ ≡ clearKeys d mem → Walkable (decode d mem′)
-  walkable-cleared r mem′ e =
-      let W = walkable r in
+  pub walkable-cleared : Walkable (decode d mem) → (mem′ : List ℕ) → mem′ ≡ clearKeys d mem → Walkable (decode d mem′)
+  walkable-cleared W mem′ e =
       subst Walkable (sym (ap (decode d) e ∙ decode-clearKeys))
       (record { entries = record { one = W .entries .one; noOther = W .entries .noOther }; blocks = W .blocks; root = W .root; top = W .top })
 
@@ -109,7 +101,7 @@ module _ (d : Document) (mem : List ℕ) (ok : memoryOk d (length mem) ≡ true)
 
   -- ---- the whole
 
-  order-size : length (orderOf (decode d mem)) ≡ n
+  pub order-size : length (orderOf (decode d mem)) ≡ n
   unfolding orderOf
   order-size =
       length-keyed _ 0 (ordered D)
@@ -128,6 +120,21 @@ module _ (d : Document) (mem : List ℕ) (ok : memoryOk d (length mem) ≡ true)
   pub decode-renewed : (r : Document) (mem′ : List ℕ) → r ≡ renewed d → mem′ ≡ putOrders d (orderOf (decode d mem)) mem → decode r mem′ ≡ renewOrder (decode d mem)
   unfolding renewOrder
   decode-renewed r mem′ e q = ap (λ (x : Document). decode x mem′) e ∙ ap (decode (renewed d)) q ∙ decode-putOrders d mem ok (orderOf D) order-size true
+
+  -- as a step
+  pub renewed-step : (r : Document) (mem′ : List ℕ) → r ≡ renewed d → mem′ ≡ putOrders d (orderOf (decode d mem)) mem → Step d mem r mem′ (renewOrder (decode d mem))
+  unfolding putOrders
+  renewed-step r mem′ e q =
+      let l = limitsOf (d .limits) in
+      record {
+        document = decode-renewed r mem′ e q;
+        limits = ap (λ (x : Document). x .limits) e;
+        size = ap length q ∙ length-putOrders d mem ok (orderOf D) order-size;
+        past =
+            ap (drop (documentWords l)) q
+            ∙ drop-put-after mem (n * 14) (orderOf D) (documentWords l) (let z = long in omega arith)
+            (omega (arith, order-size, arena-behind-slots l children, arena-inside l children, names-next l, words-next l));
+      }
 
 -- test 4 of an editing call: the memory, and a word of scratch for each slot
 module _ (d : Document) (mem scratch : ℕ) (h : buffersOk d mem scratch ≡ true) where

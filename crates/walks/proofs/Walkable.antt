@@ -17,7 +17,7 @@ use Rattle.slots.specs.Handles.{handleIndex, handleGeneration}
 use Rattle.slots.proofs.Handles.{wordOf-idOf}
 use Rattle.model.specs.Kinds.{Which, children, attributes, namespaces, whichOf}
 use Rattle.model.specs.Doc.{Doc, rootHandle, generationAt, liveSlot, handleWord, handleAt, resolves, kindIn, parentAt, rangeIn, listIn, listAt}
-use Rattle.model.specs.Rules.{Entries, blockIn}
+use Rattle.model.specs.Rules.{Entries, blockIn, Rules}
 use Rattle.model.specs.Edits.{pushedBy}
 use Rattle.model.proofs.Wf.{Distinct}
 use Rattle.memory.specs.declared.layout.Document.{Document}
@@ -120,6 +120,15 @@ nest D W = record {
     λ e. Option·none-ne-some x (sym (W .top) ∙ ap (parentAt D) (sym e) ∙ parent-is D (W .entries) children x c lx m),
   );
   once = list-once D (W .entries) children;
+}
+
+-- the rules have what a walk uses
+pub rules-walkable : (D : Doc) → Rules D → Walkable D
+rules-walkable D r = record {
+  entries = r .entries;
+  blocks = r .blocks;
+  root = rw (r .fields .rootGeneration, r .fields .rootKind);
+  top = r .fields .rootParent;
 }
 
 module _ (d : Document) (mem : List ℕ) (ok : memoryOk d (length mem) ≡ true) where

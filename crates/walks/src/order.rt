@@ -7,7 +7,6 @@ ghost use lib.ListN.{length};
 ghost use Rattle.slots.specs.Handles.{handleIndex};
 ghost use Rattle.model.specs.Kinds.{Which};
 ghost use Rattle.model.specs.Doc.{listIn};
-ghost use Rattle.model.specs.Rules.{Rules};
 ghost use Rattle.model.specs.Edits.{ordered, orderOf, renewOrder};
 ghost use Rattle.memory.specs.Layout.{whichOf, memoryOk, buffersOk};
 ghost use Rattle.memory.specs.Decode.{decode};
@@ -22,7 +21,7 @@ use memory::read::made;
 use slots::NodeSlot;
 
 // The slot of a handle.
-fn slot_of(word: u64) -> NodeSlot
+pub fn slot_of(word: u64) -> NodeSlot
     ensures { λ r. ⌜ r .0 ≡ handleIndex word ⌝ }
 {
     NodeSlot((word % 4294967296) as u32)
@@ -101,7 +100,7 @@ fn clear_keys(d: Document, mem: &mut [u64])
 
 // The renewed order. Scratch holds the stack, and anything after.
 pub fn renew_order(d: Document, mem: &mut [u64], scratch: &mut [u64]) -> Document
-    requires { ⌜ (buffersOk d (length (now mem)) (length (now scratch)) ≡ true) × Rules (decode d (now mem)) ⌝ }
+    requires { ⌜ (buffersOk d (length (now mem)) (length (now scratch)) ≡ true) × Walkable (decode d (now mem)) ⌝ }
     ensures { λ r. ⌜ decode r (now (mem .exit)) ≡ renewOrder (decode d (now (mem .entry))) ⌝ }
     ensures { λ r. ⌜ (r ≡ renewed d) × (now (mem .exit) ≡ putOrders d (orderOf (decode d (now (mem .entry)))) (now (mem .entry))) ⌝ }
 {

@@ -4,6 +4,7 @@ use Rattle.slots.specs.Handles.{wordOf}
 use Rattle.memory.specs.Decode.{decode}
 use Rattle.plans.proofs.Appended.{pi-parent}
 use Rattle.plans.proofs.Verdicts.{refused-before, accepted-before}
+use Rattle.plans.proofs.Refusing.{append-pi-number}
 use borrow.Author.Needs.{needs}
 use Rattle.plans.proofs.appending.plan_append_pi.Statement.{statement}
 use Rattle.plans.proofs.appending.plan_append_pi.Tie as tie
@@ -18,10 +19,10 @@ pi-fits-requires : tie.Need-pi-fits-requires
 pi-fits-requires c κs = let s = c .before .before .before .before .before .before in (s .pre, pi-parent (decode (s .args .d) (s .args .mem .now)) (wordOf (s .args .parent)) _ _ (c .before .is-accepted .ensures) (c .if1 .taken) (s .args .target .now) (s .args .content .now) (c .before .before .check-append-pi .ensures))
 
 returns : tie.Need-returns
-returns c = accepted-before _ _ _ _ (c .before .before .before .check-append-pi .ensures) (c .before .before .is-accepted .ensures) (c .before .if1 .taken) _ (c .pi-fits .ensures)
+returns c = let s = c .before .before .before .before .before .before .before .args in append-pi-number (decode (s .d) (s .mem .now)) _ (wordOf (s .parent)) (s .target .now) (s .content .now) (accepted-before _ _ _ _ (c .before .before .before .check-append-pi .ensures) (c .before .before .is-accepted .ensures) (c .before .if1 .taken) _ (c .pi-fits .ensures))
 
 returns-2 : tie.Need-returns-2
-returns-2 c = refused-before _ _ _ _ (c .before .before .check-append-pi .ensures) (c .before .is-accepted .ensures) (c .if1 .left)
+returns-2 c = let s = c .before .before .before .before .before .before .args in append-pi-number (decode (s .d) (s .mem .now)) _ (wordOf (s .parent)) (s .target .now) (s .content .now) (refused-before _ _ _ _ (c .before .before .check-append-pi .ensures) (c .before .is-accepted .ensures) (c .if1 .left))
 
 pub plan-append-pi-spec : {M : Type 1} → statement M
 plan-append-pi-spec =

@@ -2,8 +2,10 @@
 -- Assumes nothing.
 use native.Mathlib.Omega.{arith}
 use mathlib.Core.Path.{sym, _∙_}
+use Rattle.blocks.specs.Arena.{hasRoom}
 use Rattle.memory.specs.Layout.{whichOf}
-use Rattle.plans.proofs.Room.{block-held, room-found, room-stale}
+use Rattle.memory.specs.Decode.{arenaIn}
+use Rattle.plans.proofs.Room.{block-held, block-found, block-stale}
 use borrow.Author.Needs.{needs}
 use Rattle.plans.proofs.full.room_fits.Statement.{statement}
 use Rattle.plans.proofs.full.room_fits.Tie as tie
@@ -27,10 +29,10 @@ enum-told : tie.Need-enum-told
 enum-told c = search needs
 
 returns : tie.Need-returns
-returns c = let s = c .before .before .before .before .before .before .before .args in room-found (s .d) (s .mem .now) (s .id) (omega (arith, c .before .before .before .before .before .before .before .good)) (omega (arith, c .before .before .before .before .before .before .before .good)) (whichOf (s .arena)) _ (sym (c .before .before .before .before .before .resolve .ensures) ∙ c .before .before .before .node .given .1) _ (c .before .range-of .ensures) _ (c .block-fits .ensures)
+returns c = let s = c .before .before .before .before .before .before .before .args in block-found (s .d) (s .mem .now) (s .id) (omega (arith, c .before .before .before .before .before .before .before .good)) (omega (arith, c .before .before .before .before .before .before .before .good)) (whichOf (s .arena)) _ (sym (c .before .before .before .before .before .resolve .ensures) ∙ c .before .before .before .node .given .1) _ (c .before .range-of .ensures) (hasRoom (arenaIn (s .d) (whichOf (s .arena)) (s .mem .now))) _ (c .block-fits .ensures)
 
 returns-2 : tie.Need-returns-2
-returns-2 c = let s = c .before .before .before .before .args in room-stale (s .d) (s .mem .now) (s .id) (omega arith) (omega arith) (whichOf (s .arena)) (sym (c .before .before .resolve .ensures) ∙ c .enum-told .given .1)
+returns-2 c = let s = c .before .before .before .before .args in block-stale (s .d) (s .mem .now) (s .id) (omega arith) (omega arith) (whichOf (s .arena)) (hasRoom (arenaIn (s .d) (whichOf (s .arena)) (s .mem .now))) (sym (c .before .before .resolve .ensures) ∙ c .enum-told .given .1)
 
 pub room-fits-spec : {M : Type 1} → statement M
 room-fits-spec =

@@ -3,9 +3,12 @@
 use native.Mathlib.Omega.{arith}
 use mathlib.Core.Path.{sym, _∙_}
 use Rattle.plans.proofs.Viewed.{check-found, check-stale, remove-kind}
+use Rattle.slots.specs.Handles.{wordOf}
+use Rattle.memory.specs.Decode.{decode}
 use Rattle.model.specs.Kinds.{isRoot}
 use Rattle.model.specs.Arguments.{refuseIf}
 use Rattle.model.specs.Checks.{checkRemove}
+use Rattle.plans.proofs.Refusing.{remove-number}
 use borrow.Author.Needs.{needs}
 use Rattle.plans.proofs.removing.plan_remove.Statement.{statement}
 use Rattle.plans.proofs.removing.plan_remove.Tie as tie
@@ -29,10 +32,10 @@ enum-told : tie.Need-enum-told
 enum-told c = search needs
 
 returns : tie.Need-returns
-returns c = let s = c .before .before .before .before .before .before .before .args in check-found (s .d) (s .mem .now) (s .node) (omega arith) (omega arith) checkRemove (λ k. refuseIf (isRoot k) 11) (λ f g k. remove-kind f g k) _ (sym (c .before .before .before .before .before .resolve .ensures) ∙ c .before .before .before .found .given .1) _ (rw (c .before .root-kind .ensures) at (c .refuse-if .ensures))
+returns c = let s = c .before .before .before .before .before .before .before .args in remove-number (decode (s .d) (s .mem .now)) _ (wordOf (s .node)) (check-found (s .d) (s .mem .now) (s .node) (omega arith) (omega arith) checkRemove (λ k. refuseIf (isRoot k) 11) (λ f g k. remove-kind f g k) _ (sym (c .before .before .before .before .before .resolve .ensures) ∙ c .before .before .before .found .given .1) _ (rw (c .before .root-kind .ensures) at (c .refuse-if .ensures)))
 
 returns-2 : tie.Need-returns-2
-returns-2 c = let s = c .before .before .before .before .args in check-stale (s .d) (s .mem .now) (s .node) (omega arith) (omega arith) checkRemove (sym (c .before .before .resolve .ensures) ∙ c .enum-told .given .1)
+returns-2 c = let s = c .before .before .before .before .args in remove-number (decode (s .d) (s .mem .now)) _ (wordOf (s .node)) (check-stale (s .d) (s .mem .now) (s .node) (omega arith) (omega arith) checkRemove (sym (c .before .before .resolve .ensures) ∙ c .enum-told .given .1))
 
 pub plan-remove-spec : {M : Type 1} → statement M
 plan-remove-spec =

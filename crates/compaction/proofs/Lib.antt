@@ -1,0 +1,10 @@
+pub mod Copying
+pub mod Nodes
+pub mod Reading
+pub mod MetNodes
+pub mod Layings
+pub mod Growing
+pub mod Turns
+pub mod Rebuilding
+pub mod Replacing
+pub mod Compacted

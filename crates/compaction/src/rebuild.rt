@@ -1,0 +1,90 @@
+// The arenas rebuilt, and the call `compact` after its plan.
+ghost use mathlib.Core.Path.{_≡_};
+ghost use mathlib.Core.Bool.{true};
+ghost use Prim.Native.Nat.{_≤_};
+ghost use lib.ListN.{length};
+ghost use Rattle.model.specs.Kinds.{Which};
+ghost use Rattle.model.specs.Rules.{Rules};
+ghost use Rattle.model.specs.Edits.{rebuildArenas};
+ghost use Rattle.model.specs.Calls.{compact, done};
+ghost use Rattle.memory.specs.Layout.{whichOf, entriesOf, memoryOk, buffersOk};
+ghost use Rattle.memory.specs.Decode.{decode};
+ghost use Rattle.memory.specs.Undamaged.{Undamaged};
+ghost use Rattle.memory.specs.Step.{Step};
+ghost use Rattle.memory.specs.Performed.{Performed};
+ghost use Rattle.compaction.specs.Copies.{lengthOf, arenaReplaced, arenasReplaced, lengthsRebuilt};
+use crate::copy::Lengths;
+use crate::copy::length_in;
+use crate::tree::lay_trees;
+use memory::layout::Arena;
+use memory::layout::Counts;
+use memory::layout::Document;
+use memory::layout::arena_at;
+use memory::layout::arena_limit;
+use walks::order::renew_order;
+
+// The copies in an arena replace the ids.
+fn replace_blocks(d: Document, mem: &mut [u64], arena: Arena, used: Lengths)
+    requires { ⌜ (memoryOk d (length (now mem)) ≡ true) × (lengthOf used (whichOf arena) ≤ entriesOf (d .limits) (whichOf arena)) ⌝ }
+    ensures { λ _. ⌜ now (mem .exit) ≡ arenaReplaced d (whichOf arena) used (now (mem .entry)) ⌝ }
+{
+    let count = length_in(used, arena);
+    let limit = arena_limit(d.limits, arena);
+    let start = arena_at(d.limits, arena);
+    let end = start + (limit + limit);
+    blocks::compact::replace_blocks(&mut mem[start..end], limit, count);
+}
+
+// The record with the new lengths of the arenas.
+fn with_lengths(d: Document, used: Lengths) -> Document
+    ensures { λ r. ⌜ r ≡ lengthsRebuilt d used ⌝ }
+{
+    let limits = d.limits;
+    let c = d.counts;
+    let counts = Counts {
+        slots: c.slots,
+        free: c.free,
+        children: used.children,
+        attributes: used.attributes,
+        namespaces: used.namespaces,
+        texts: c.texts,
+        freetexts: c.freetexts,
+        textbytes: c.textbytes,
+        names: c.names,
+        namebytes: c.namebytes,
+    };
+    Document {
+        limits,
+        counts,
+        current: false,
+    }
+}
+
+// The copies in all arenas replace the ids.
+fn replace_arenas(d: Document, mem: &mut [u64], used: Lengths)
+    requires { ⌜ (memoryOk d (length (now mem)) ≡ true) × ((w : Which) → lengthOf used w ≤ entriesOf (d .limits) w) ⌝ }
+    ensures { λ _. ⌜ now (mem .exit) ≡ arenasReplaced d used (now (mem .entry)) ⌝ }
+{
+    replace_blocks(d, mem, Arena::Children, used);
+    replace_blocks(d, mem, Arena::Attributes, used);
+    replace_blocks(d, mem, Arena::Namespaces, used);
+}
+
+// The arenas rebuilt from the nodes without a parent, in slot order. Scratch holds the stack.
+pub fn rebuild_arenas(d: Document, mem: &mut [u64], scratch: &mut [u64]) -> Document
+    requires { ⌜ (buffersOk d (length (now mem)) (length (now scratch)) ≡ true) × Rules (decode d (now mem)) ⌝ }
+    ensures { λ r. ⌜ Step d (now (mem .entry)) r (now (mem .exit)) (rebuildArenas (decode d (now (mem .entry)))) ⌝ }
+{
+    let used = lay_trees(d, mem, scratch);
+    replace_arenas(d, mem, used);
+    with_lengths(d, used)
+}
+
+// The call: arenas rebuilt, and the order renewed.
+pub fn do_compact(d: Document, mem: &mut [u64], scratch: &mut [u64]) -> Document
+    requires { ⌜ (buffersOk d (length (now mem)) (length (now scratch)) ≡ true) × Undamaged d (now mem) ⌝ }
+    ensures { λ r. ⌜ Performed compact d (now (mem .entry)) done r (now (mem .exit)) ⌝ }
+{
+    let rebuilt = rebuild_arenas(d, mem, scratch);
+    renew_order(rebuilt, mem, scratch)
+}

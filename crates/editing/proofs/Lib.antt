@@ -1,0 +1,4 @@
+pub mod Numbers
+pub mod Editing
+pub mod Admitting
+pub mod Searched

@@ -1,0 +1,92 @@
+-- The words of the names lent to the table, and what an interned name is to the document.
+-- Assumes nothing.
+use mathlib.Core.Path.{_≡_, sym, ap, subst, _∙_}
+use mathlib.Core.Bool.{true}
+use mathlib.Core.List.{List, _++_}
+use Prim.Native.Nat.{ℕ, _+_, _-_, _≤_, _<_}
+use native.Mathlib.Omega.{arith}
+use lib.ListN.{length, take, drop}
+use Rattle.names.specs.Table.{Name, numberOf, interned, nameFits}
+use Rattle.names.specs.Words.{tableOf, TableHeld, InternedTo}
+use Rattle.names.specs.declared.interning.Interned.{Interned}
+use Rattle.names.proofs.Table.{numberOf-le}
+use Rattle.names.proofs.Words.{table-names}
+use Rattle.model.specs.Doc.{Doc}
+use Rattle.model.specs.Rules.{Rules}
+use Rattle.memory.specs.declared.layout.Document.{Document}
+use Rattle.memory.specs.Layout.{limitsOf, namesAt, namesWords}
+use Rattle.memory.specs.Decode.{nameLimits, nameCounts, namesPart, decode}
+use Rattle.memory.specs.Step.{Step}
+use Rattle.memory.proofs.Limits.{memory-limits, limits-fit, words-fit, words-next}
+use Rattle.memory.proofs.Shown.{names-held}
+use Rattle.edits.specs.Pooled.{putNames, withNames, setNames}
+use Rattle.edits.specs.Stores.{NamesReady, Internable}
+use Rattle.edits.proofs.Lent.{region-lent, region-back, region-written}
+use Rattle.edits.proofs.Renamed.{names-within, names-counted, names-step}
+
+pub rules-names : (D : Doc) → Rules D → NamesReady D
+rules-names D r = record { counts = r .fields .counts; lengths = r .texts .lengths }
+
+module _ (d : Document) (mem : List ℕ) (n : Name) (s : Internable d mem n) where
+  table : TableHeld (nameLimits d) (nameCounts d) (namesPart d mem)
+  table = names-counted d mem (s .memory) (s .ready .counts) (s .ready .lengths)
+
+  fits : nameFits (d .limits .names) (d .limits .namebytes) (tableOf (nameLimits d) (nameCounts d) (namesPart d mem)) n ≡ true
+  fits = ap (λ (t : List Name). nameFits (d .limits .names) (d .limits .namebytes) t n) (sym (names-held d mem table)) ∙ s .room
+
+  module _ (start : ℕ) (e : start ≡ namesAt (limitsOf (d .limits))) where
+    abbrev span : ℕ
+    span = d .limits .names + d .limits .names + d .limits .namebytes
+
+    spans : span ≡ namesWords (limitsOf (d .limits))
+    spans = omega arith
+
+    abbrev given : List ℕ
+    given = take (start + (d .limits .names + d .limits .names + d .limits .namebytes) - start) (drop start mem)
+
+    names-lent : given ≡ namesPart d mem
+    names-lent = region-lent mem start (namesAt (limitsOf (d .limits))) span (namesWords (limitsOf (d .limits))) e spans
+
+    pub names-inside : (start + (d .limits .names + d .limits .names + d .limits .namebytes) ≤ length mem) × (start + (d .limits .names + d .limits .names + d .limits .namebytes) < 4294967296)
+    names-inside =
+        let l = limitsOf (d .limits) in
+        let f = words-fit l (limits-fit l (memory-limits d (length mem) (s .memory))) in
+        (omega (arith, e, names-within d mem (s .memory)), omega (arith, e, words-next l))
+
+    pub intern-asked : TableHeld (nameLimits d) (nameCounts d) given × (nameFits (d .limits .names) (d .limits .namebytes) (tableOf (nameLimits d) (nameCounts d) given) n ≡ true)
+    intern-asked = rw names-lent (table, fits)
+
+    module _ (ys : List ℕ) (r : Interned) (k : InternedTo (nameLimits d) (nameCounts d) given ys n r) where
+      told : InternedTo (nameLimits d) (nameCounts d) (namesPart d mem) ys n r
+      told = rw names-lent at k
+
+      abbrev left : List ℕ
+      left = take start mem ++ (ys ++ drop (start + (d .limits .names + d .limits .names + d .limits .namebytes) - start) (drop start mem))
+
+      pub intern-told : InternedTo (nameLimits d) (nameCounts d) (namesPart d mem) (namesPart d left) n r × (left ≡ putNames d (namesPart d left) mem)
+      unfolding putNames
+      intern-told =
+          let l = limitsOf (d .limits) in (
+            subst (λ (w : List ℕ). InternedTo (nameLimits d) (nameCounts d) (namesPart d mem) w n r)
+                (sym (region-back mem start (namesAt l) span (namesWords l) e spans (names-within d mem (s .memory)) ys (told .held .size))) told,
+            region-written mem start (namesAt l) span (namesWords l) e spans (names-within d mem (s .memory)) ys (told .held .size),
+          )
+
+  module _ (mem′ : List ℕ) (r : Interned) (k : InternedTo (nameLimits d) (nameCounts d) (namesPart d mem) (namesPart d mem′) n r) where
+    pub number-narrow : r .number < 4294967296
+    number-narrow =
+        let t = tableOf (nameLimits d) (nameCounts d) (namesPart d mem) in
+        let z = limits-fit (limitsOf (d .limits)) (memory-limits d (length mem) (s .memory)) in
+        omega (arith, k .number, numberOf-le t n, table-names (nameLimits d) (nameCounts d) (namesPart d mem) table, table .names, z .names)
+
+    pub intern-step : mem′ ≡ putNames d (namesPart d mem′) mem → (e : Document) → e ≡ withNames d (r .counts)
+        → Step d mem e mem′ (setNames (decode d mem) (interned (decode d mem .names) n))
+    intern-step em e ee =
+        let t = interned (decode d mem .names) n in
+        let stepped = names-step d mem (s .memory) (s .ready .counts) (s .ready .lengths) (r .counts) (namesPart d mem′) (k .held) t
+        (k .table ∙ ap (λ (x : List Name). interned x n) (sym (names-held d mem table))) in
+        subst (λ (x : Document). Step d mem x mem′ (setNames (decode d mem) t)) (sym ee)
+        (subst (λ (x : List ℕ). Step d mem (withNames d (r .counts)) x (setNames (decode d mem) t)) (sym em) stepped)
+
+    pub interned-number : r .number ≡ numberOf (decode d mem .names) n
+    interned-number = k .number ∙ ap (λ (x : List Name). numberOf x n) (sym (names-held d mem table))

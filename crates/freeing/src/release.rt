@@ -1,0 +1,126 @@
+// The texts of a node are released.
+ghost use mathlib.Core.Path.{_≡_};
+ghost use mathlib.Core.Bool.{true};
+ghost use mathlib.Core.Option.{some};
+ghost use mathlib.Core.List.{_∷_, []};
+ghost use Prim.Native.Nat.{_<_};
+ghost use lib.ListN.{length};
+ghost use Rattle.model.specs.Kinds.{textsOf};
+ghost use Rattle.model.specs.Doc.{kindIn};
+ghost use Rattle.model.specs.Edits.{releasedAll};
+ghost use Rattle.memory.specs.Layout.{memoryOk};
+ghost use Rattle.memory.specs.Decode.{slotOf, kindOf, slotsMade, decode};
+ghost use Rattle.memory.specs.Step.{Step};
+ghost use Rattle.edits.specs.Pooled.{setPool};
+ghost use Rattle.freeing.specs.Freed.{textsIn};
+ghost use Rattle.freeing.specs.Asked.{Releasable};
+use edits::storing::with_texts;
+use memory::layout::Document;
+use slots::Chars;
+use slots::Loaded;
+use slots::NodeData;
+use slots::NodeSlot;
+use slots::TextSlot;
+use texts::TextCounts;
+use texts::TextLimits;
+
+// The text fields of a node: one that it does not have is empty.
+pub struct HeldTexts {
+    pub first: Chars,
+    pub second: Chars,
+}
+
+// The bytes of a text slot are given back, and the slot goes on the free text list.
+fn release_slot(d: Document, mem: &mut [u64], slot: TextSlot) -> Document
+    requires { ⌜ (memoryOk d (length (now mem)) ≡ true) × Releasable (decode d (now mem)) (some (slot .0) ∷ []) ⌝ }
+    ensures { λ r. ⌜ Step d (now (mem .entry)) r (now (mem .exit)) (setPool (decode d (now (mem .entry))) (releasedAll (decode d (now (mem .entry)) .pool) (some (slot .0) ∷ []))) ⌝ }
+{
+    let l = d.limits;
+    let c = d.counts;
+    let limits = TextLimits {
+        slots: l.texts,
+        bytes: l.textbytes,
+    };
+    let counts = TextCounts {
+        slots: c.texts,
+        free: c.freetexts,
+        bytes: c.textbytes,
+    };
+    let start = memory::layout::texts_at(l);
+    let end = start + (2 * l.texts + l.textbytes);
+    let number = slot.0;
+    let after = texts::edits::release_text(&mut mem[start..end], limits, counts, number as usize);
+    with_texts(d, after)
+}
+
+// A text stored empty has no slot.
+fn release_chars(d: Document, mem: &mut [u64], field: Chars) -> Document
+    requires { ⌜ (memoryOk d (length (now mem)) ≡ true) × Releasable (decode d (now mem)) (slotOf field ∷ []) ⌝ }
+    ensures { λ r. ⌜ Step d (now (mem .entry)) r (now (mem .exit)) (setPool (decode d (now (mem .entry))) (releasedAll (decode d (now (mem .entry)) .pool) (slotOf field ∷ []))) ⌝ }
+{
+    match field {
+        Chars::Empty => d,
+        Chars::Expanded(slot) => release_slot(d, mem, slot),
+    }
+}
+
+fn texts_in(data: NodeData) -> HeldTexts
+    ensures { λ r. ⌜ r ≡ textsIn «data» ⌝ }
+{
+    match data {
+        NodeData::Root => HeldTexts {
+            first: Chars::Empty,
+            second: Chars::Empty,
+        },
+        NodeData::Element { .. } => HeldTexts {
+            first: Chars::Empty,
+            second: Chars::Empty,
+        },
+        NodeData::Attr { value, .. } => HeldTexts {
+            first: value,
+            second: Chars::Empty,
+        },
+        NodeData::Text(content) => HeldTexts {
+            first: content,
+            second: Chars::Empty,
+        },
+        NodeData::Comment(content) => HeldTexts {
+            first: content,
+            second: Chars::Empty,
+        },
+        NodeData::Namespace { prefix, uri } => HeldTexts {
+            first: prefix,
+            second: uri,
+        },
+        NodeData::ProcessingInstruction { target, data } => HeldTexts {
+            first: target,
+            second: data,
+        },
+    }
+}
+
+fn release_data(d: Document, mem: &mut [u64], data: NodeData) -> Document
+    requires { ⌜ (memoryOk d (length (now mem)) ≡ true) × Releasable (decode d (now mem)) (textsOf (kindOf «data»)) ⌝ }
+    ensures { λ r. ⌜ Step d (now (mem .entry)) r (now (mem .exit)) (setPool (decode d (now (mem .entry))) (releasedAll (decode d (now (mem .entry)) .pool) (textsOf (kindOf «data»)))) ⌝ }
+{
+    let held = texts_in(data);
+    let first = held.first;
+    let second = held.second;
+    let emptied = release_chars(d, mem, first);
+    release_chars(emptied, mem, second)
+}
+
+// The texts of the node in a slot, in the order in which its fields hold them.
+pub fn release_texts(d: Document, mem: &mut [u64], slot: NodeSlot) -> Document
+    requires { ⌜ (memoryOk d (length (now mem)) ≡ true) × (slot .0 < slotsMade d) × Releasable (decode d (now mem)) (textsOf (kindIn (decode d (now mem)) (slot .0))) ⌝ }
+    ensures { λ r. ⌜ Step d (now (mem .entry)) r (now (mem .exit)) (setPool (decode d (now (mem .entry))) (releasedAll (decode d (now (mem .entry)) .pool) (textsOf (kindIn (decode d (now (mem .entry))) (slot .0))))) ⌝ }
+{
+    let loaded = memory::read::load(d, &mem[..], slot);
+    match loaded {
+        Loaded::Found(node) => {
+            let data = node.data;
+            release_data(d, mem, data)
+        }
+        Loaded::NoNode => d,
+    }
+}
