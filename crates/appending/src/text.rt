@@ -1,0 +1,39 @@
+// A new text goes behind a node's children.
+ghost use Rattle.slots.specs.Handles.{wordOf};
+ghost use Rattle.model.specs.Calls.{append-text};
+ghost use Rattle.memory.specs.Undamaged.{Undamaged};
+ghost use Rattle.editing.specs.Contract.{Edits, Answers};
+ghost use Rattle.editing.specs.Answers.{ofMade, afterMade};
+use editing::admission::admit;
+use editing::answers::MadeAnswer;
+use edits::append::do_append_text;
+use memory::layout::Document;
+use plans::appending::plan_append_text;
+use plans::verdict::Verdict;
+use slots::NodeId;
+
+fn append_checked(d: Document, mem: &mut [u64], parent: NodeId, text: &[u8]) -> MadeAnswer
+    requires { ⌜ Undamaged d (now mem) ⌝ }
+    ensures { λ r. ⌜ Answers (append-text (wordOf parent) (now (text .entry))) d (now (mem .entry)) (ofMade r) (afterMade d r) (now (mem .exit)) ⌝ }
+{
+    match plan_append_text(d, &mem[..], parent, text) {
+        Verdict::Refused(why) => MadeAnswer::Refused(why),
+        Verdict::Accepted => MadeAnswer::Made(do_append_text(d, mem, parent, text)),
+    }
+}
+
+// Rules out a text slot for an empty text, and text other than white space under the Root.
+pub fn append_text(
+    d: Document,
+    mem: &mut [u64],
+    scratch: &mut [u64],
+    parent: NodeId,
+    text: &[u8],
+) -> MadeAnswer
+    ensures { λ r. ⌜ Edits (append-text (wordOf parent) (now (text .entry))) d (now (mem .entry)) (now (scratch .entry)) (ofMade r) (afterMade d r) (now (mem .exit)) (now (scratch .exit)) ⌝ }
+{
+    match admit(d, &mem[..], scratch) {
+        Verdict::Refused(why) => MadeAnswer::Refused(why),
+        Verdict::Accepted => append_checked(d, mem, parent, text),
+    }
+}

@@ -1,0 +1,2 @@
+// The public calls that put a node under another parent.
+pub mod moves;

@@ -1,0 +1,3 @@
+// The public calls that renew the order.
+pub mod compact;
+pub mod order;
