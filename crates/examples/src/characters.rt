@@ -1,8 +1,8 @@
-// UTF-8, the productions, names and texts: bench examples 9 to 12 as far as characters go, and outside vectors.
+// Outside vectors: UTF-8, the productions, names and texts.
 use crate::ends;
 use crate::report::say;
 use chars::Check;
-use chars::names;
+use chars::names as rules;
 use chars::xml;
 
 // Which check a case is for.
@@ -37,18 +37,18 @@ fn unless(refused: bool, number: u8) -> u8 {
 }
 
 fn number_of_name(s: &[u8]) -> u8 {
-    if !names::is_utf8(s) {
+    if !rules::is_utf8(s) {
         return 1;
     }
-    unless(!names::is_ncname(s), 2)
+    unless(!rules::is_ncname(s), 2)
 }
 
 fn number_of_root_text(s: &[u8]) -> u8 {
-    let number = number_of(names::check_text(s));
+    let number = number_of(rules::check_text(s));
     if number != 0 {
         return number;
     }
-    unless(!names::is_white_space(s), 3)
+    unless(!rules::is_white_space(s), 3)
 }
 
 // The bytes as a stored text, one a word.
@@ -62,7 +62,7 @@ fn number_of_stored(s: &[u8]) -> u8 {
         words[n] = wide(s[n]);
         n += 1;
     }
-    number_of(names::check_text_words(&words[..n]))
+    number_of(rules::check_text_words(&words[..n]))
 }
 
 fn wide(byte: u8) -> u64 {
@@ -71,19 +71,19 @@ fn wide(byte: u8) -> u64 {
 
 fn number(kind: Kind, s: &[u8]) -> u8 {
     match kind {
-        Kind::Utf8 => unless(!names::is_utf8(s), 1),
+        Kind::Utf8 => unless(!rules::is_utf8(s), 1),
         Kind::Name => number_of_name(s),
         Kind::RootText => number_of_root_text(s),
-        Kind::Attribute => unless(names::is_xmlns(s), 2),
-        Kind::Prefix => number_of(names::check_prefix(s)),
-        Kind::Namespace => number_of(names::check_namespace(s)),
-        Kind::Binding => number_of(names::check_namespace_binding(s)),
-        Kind::Text => number_of(names::check_text(s)),
+        Kind::Attribute => unless(rules::is_xmlns(s), 2),
+        Kind::Prefix => number_of(rules::check_prefix(s)),
+        Kind::Namespace => number_of(rules::check_namespace(s)),
+        Kind::Binding => number_of(rules::check_namespace_binding(s)),
+        Kind::Text => number_of(rules::check_text(s)),
         Kind::Stored => number_of_stored(s),
-        Kind::Literal => number_of(names::check_literal(s)),
-        Kind::Comment => number_of(names::check_comment(s)),
-        Kind::Target => number_of(names::check_pi(s, b"")),
-        Kind::PiData => number_of(names::check_pi(b"p", s)),
+        Kind::Literal => number_of(rules::check_literal(s)),
+        Kind::Comment => number_of(rules::check_comment(s)),
+        Kind::Target => number_of(rules::check_pi(s, b"")),
+        Kind::PiData => number_of(rules::check_pi(b"p", s)),
     }
 }
 
@@ -149,15 +149,15 @@ fn stored_words() {
     let letter = [0x161u64];
     say(
         b"a word above 255",
-        number_of(names::check_text_words(&letter)) == 1,
+        number_of(rules::check_text_words(&letter)) == 1,
     );
     let space = [0x20u64, 0x120u64];
     say(
         b"a word above 255 is no space",
-        !names::is_white_space_words(&space),
+        !rules::is_white_space_words(&space),
     );
     let spaces = [0x20u64, 0x9u64, 0xAu64];
-    say(b"stored spaces", names::is_white_space_words(&spaces));
+    say(b"stored spaces", rules::is_white_space_words(&spaces));
 }
 
 fn productions() {
@@ -214,35 +214,16 @@ fn utf8() {
     );
 }
 
-// Bench examples 9 to 12.
-fn examples() {
-    group(
-        b"example 9",
-        Kind::Name,
-        b"20221a23a:b22\xC3\x9722\xCD\xBE03a-102\xC3\xA903a\xC2\xB7",
-    );
-    group(b"example 10", Kind::RootText, b"0001\x0931a31\x0D");
-    group(
-        b"example 11, the attribute",
-        Kind::Attribute,
-        b"25xmlns04xmln06xmlnsx05XMLNS",
-    );
-    group(
-        b"example 11, the namespace of the attribute",
-        Kind::Namespace,
-        b"01u",
-    );
-    group(b"example 11, the prefix", Kind::Prefix, b"23xml01p");
-    group(b"example 11, the URI of the prefix", Kind::Binding, b"00");
-    group(b"example 12, the comment", Kind::Comment, b"32a-34a--b02-a");
-    group(b"example 12, the target", Kind::Target, b"23XmL");
-}
-
 fn names_and_uris() {
     group(
         b"names",
         Kind::Name,
         b"12a\xFF21:22a:22-a21.22\xC2\xB722\xCC\x8003a\xCC\x8001_03xml05xmlns04a\xE2\x80\xBF23\xE2\x80\xBF04\xF0\x90\x80\x8004\xF3\xAF\xBF\xBF24\xF3\xB0\x80\x8023a b22a\x00",
+    );
+    group(
+        b"attribute names",
+        Kind::Attribute,
+        b"25xmlns04xmln06xmlnsx05XMLNS",
     );
     group(
         b"prefixes",
@@ -302,7 +283,6 @@ fn texts() {
 pub fn run() {
     productions();
     utf8();
-    examples();
     names_and_uris();
     texts();
     stored_words();

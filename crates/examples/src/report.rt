@@ -2,8 +2,8 @@
 pub fn say(name: &[u8], right: bool) {
     io::write_all(1, name);
     if right {
-        io::write_all(1, b": ok\n");
+        io::write_all(1, b" ok\n");
     } else {
-        io::write_all(1, b": WRONG\n");
+        io::write_all(1, b" FAILED\n");
     }
 }
