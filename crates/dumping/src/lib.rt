@@ -1,0 +1,2 @@
+// The whole state of a document as lines.
+pub mod dump;

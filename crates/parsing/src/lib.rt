@@ -1,0 +1,2 @@
+// The lines of a call list as calls.
+pub mod parse;

@@ -1,0 +1,65 @@
+-- `printing::sink::put_hex` is safe and ends.
+-- Assumes nothing.
+use borrow.Author.Needs.{needs}
+use mathlib.Core.Path.{_≡_}
+use lib.ListN.{length}
+use Prim.Native.Nat.{_+_, _-_, _≤_}
+use Rattle.printing.proofs.sink.put_hex.Statement.{statement}
+use Rattle.printing.proofs.sink.put_hex.Tie as tie
+
+abbrev Inv-loop : tie.InvT-loop
+Inv-loop out₀ at words next₀ k₀ out next k = (k ≤ length words) × (length out ≡ length out₀)
+
+abbrev μ-loop : tie.MeasureT-loop
+μ-loop out₀ at words next₀ k₀ out next k = length words - k
+
+slice-aggregate-put : tie.Need-slice-aggregate-put Inv-loop μ-loop
+slice-aggregate-put c = search needs
+
+put-requires : tie.Need-put-requires Inv-loop μ-loop
+put-requires c κs = search needs
+
+loop-holds : tie.Need-loop-holds Inv-loop μ-loop
+loop-holds c = search needs
+
+mul-put-byte : tie.Need-mul-put-byte Inv-loop μ-loop
+mul-put-byte c = search needs
+
+shared-slice-read-put-byte : tie.Need-shared-slice-read-put-byte Inv-loop μ-loop
+shared-slice-read-put-byte c = search needs
+
+put-byte-requires : tie.Need-put-byte-requires Inv-loop μ-loop
+put-byte-requires c κs = search needs
+
+add-k : tie.Need-add-k Inv-loop μ-loop
+add-k c = search needs
+
+loop-less : tie.Need-loop-less Inv-loop μ-loop
+loop-less c = search needs
+
+loop-again : tie.Need-loop-again Inv-loop μ-loop
+loop-again c = search needs
+
+same-length : tie.Need-same-length Inv-loop μ-loop
+same-length c = search needs
+
+returns : tie.Need-returns Inv-loop μ-loop
+returns c = search needs
+
+pub put-hex-spec : {M : Type 1} → statement M
+put-hex-spec =
+    tie.close
+    (tie.spec
+    Inv-loop
+    μ-loop
+    slice-aggregate-put
+    put-requires
+    loop-holds
+    mul-put-byte
+    shared-slice-read-put-byte
+    put-byte-requires
+    add-k
+    loop-less
+    loop-again
+    same-length
+    returns)
