@@ -19,6 +19,7 @@ use Rattle.slots.specs.declared.Node.{Node}
 use Rattle.slots.specs.declared.Loaded.the-variants.{Found}
 use Rattle.slots.proofs.Handles.{handleIndex-wordOf}
 use Rattle.texts.specs.Pool.{Pool, textAt, replaced, textsFit}
+use Rattle.texts.specs.Ends.{lengthOf}
 use Rattle.texts.specs.Words.{poolOf, countsFit, Counted, ReplacedTo}
 use Rattle.texts.specs.declared.TextLimits.{TextLimits}
 use Rattle.texts.specs.declared.TextCounts.{TextCounts}
@@ -181,7 +182,7 @@ module _ (d : Document) (mem : List ℕ) (slot : ℕ) (t : List ℕ) (s : Overwr
       let q : length (poolIn d mem .texts) ≡ length (poolOf (textLimits d) (textCounts d) (textsPart d mem) .texts) = ap (λ (p : Pool). length (p .texts)) (pool-held d mem counted) in
       omega (arith, s .there, pool-slots (textLimits d) (textCounts d) (textsPart d mem) counted)
 
-  fits : countsFit (textLimits d) (textCounts d) 0 (getD (textsPart d mem) slot 0) (length t) ≡ true
+  fits : countsFit (textLimits d) (textCounts d) 0 (lengthOf (textsPart d mem) slot) (length t) ≡ true
   fits =
       ap (λ (n : ℕ). countsFit (textLimits d) (textCounts d) 0 n (length t))
       (sym (text-length (textLimits d) (textCounts d) (textsPart d mem) counted slot slot-there) ∙ ap (λ (p : Pool). length (textAt p (some slot))) (sym (pool-held d mem counted)))
@@ -193,7 +194,7 @@ module _ (d : Document) (mem : List ℕ) (slot : ℕ) (t : List ℕ) (s : Overwr
     abbrev lent : List ℕ
     lent = take (start + (d .limits .texts + d .limits .texts + d .limits .textbytes) - start) (drop start mem)
 
-    pub over-asked : Counted limits counts lent × (slot < counts .slots) × (countsFit limits counts 0 (getD lent slot 0) (length t) ≡ true)
+    pub over-asked : Counted limits counts lent × (slot < counts .slots) × (countsFit limits counts 0 (lengthOf lent slot) (length t) ≡ true)
     over-asked = rw (el, ec, texts-lent d mem (s .memory) start e) (counted, slot-there, fits)
 
     module _ (ys : List ℕ) (r : TextCounts) (k : ReplacedTo limits counts lent ys slot t r) where

@@ -6,13 +6,13 @@ use mathlib.Core.List.{List, reverse}
 use Prim.Native.Nat.{ℕ, _+_, _*_, _≤_, min}
 use native.Mathlib.Omega.{arith}
 use lib.ListN.{length, take}
-use lib.Dec.{eqb}
 use borrow.Author.Tests.{eq-eqb, eqb-true}
 use Rattle.words.specs.Parts.{part, put}
 use Rattle.words.specs.Lists.{sum, tabulate}
 use Rattle.words.proofs.Parts.{length-part, length-put, part-put-same, part-put-before, drop-put-after}
 use Rattle.words.proofs.Tests.{and-left, and-right, and-both}
 use Rattle.blocks.specs.Arena.{arenaOf}
+use Rattle.texts.specs.Ends.{endsReach}
 use Rattle.texts.specs.Words.{textShown}
 use Rattle.names.specs.Table.{Name}
 use Rattle.names.specs.Words.{tableOf, TableHeld}
@@ -20,7 +20,7 @@ use Rattle.names.specs.declared.NameCounts.{NameCounts}
 use Rattle.model.specs.Kinds.{Which, children, attributes, namespaces}
 use Rattle.memory.specs.declared.layout.Document.{Document}
 use Rattle.memory.specs.Layout.{limitsOf, entriesOf, arenaAt, textsAt, textsWords, namesAt, namesWords, documentWords, memoryOk}
-use Rattle.memory.specs.Decode.{usedOf, countsWithin, slotsPart, arenaPart, textsPart, namesPart, textLimits, textCounts, nameLimits, nameCounts, poolIn, namesIn, lengthsAdd, documentOf, decode}
+use Rattle.memory.specs.Decode.{usedOf, countsWithin, slotsPart, arenaPart, textsPart, namesPart, textLimits, textCounts, nameLimits, nameCounts, poolIn, namesIn, textsAdd, namesAdd, lengthsAdd, documentOf, decode}
 use Rattle.memory.specs.Step.{Step}
 use Rattle.memory.proofs.Limits.{memory-long, arena-behind-slots, arena-inside, names-next, words-next}
 use Rattle.memory.proofs.Counted.{counts-fit, fit-counts}
@@ -44,7 +44,7 @@ module _ (d : Document) (mem : List ℕ) (ok : memoryOk d (length mem) ≡ true)
         size = length-part mem (namesAt l) (namesWords l) names-within ∙ omega arith;
         names = f .names;
         bytes = f .name-bytes;
-        sums = eqb-true _ _ (and-right (eqb (sum (take (d .counts .texts) (textsPart d mem))) (d .counts .textbytes)) (eqb (sum (take (d .counts .names + d .counts .names) (namesPart d mem))) (d .counts .namebytes)) e);
+        sums = eqb-true _ _ (and-right (textsAdd d mem) (namesAdd d mem) e);
       }
 
   -- ---- other words of the names
@@ -97,9 +97,9 @@ module _ (d : Document) (mem : List ℕ) (ok : memoryOk d (length mem) ≡ true)
     lengths-are : lengthsAdd e after ≡ lengthsAdd d mem
     unfolding lengthsAdd
     lengths-are =
-        and-both (eqb (sum (take (d .counts .texts) (textsPart d after))) (d .counts .textbytes)) (eqb (sum (take (t .names + t .names) (namesPart d after))) (t .bytes))
-        (ap (λ (x : List ℕ). eqb (sum (take (d .counts .texts) x)) (d .counts .textbytes)) texts-same
-        ∙ and-left (eqb (sum (take (d .counts .texts) (textsPart d mem))) (d .counts .textbytes)) (eqb (sum (take (d .counts .names + d .counts .names) (namesPart d mem))) (d .counts .namebytes)) lengths)
+        and-both (textsAdd e after) (namesAdd e after)
+        (ap (λ (x : List ℕ). endsReach 0 (take (d .counts .texts) x) (d .counts .textbytes)) texts-same
+        ∙ and-left (textsAdd d mem) (namesAdd d mem) lengths)
         (eq-eqb _ _ (ap (λ (x : List ℕ). sum (take (t .names + t .names) x)) names-part ∙ c .sums))
         ∙ sym lengths
 

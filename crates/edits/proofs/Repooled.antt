@@ -7,20 +7,20 @@ use Prim.Native.Nat.{ℕ, _+_, _*_, _≤_, min}
 use native.Mathlib.Omega.{arith}
 use lib.ListN.{length, take}
 use lib.Dec.{eqb}
-use borrow.Author.Tests.{eq-eqb, eqb-true}
 use Rattle.words.specs.Parts.{part, put}
 use Rattle.words.specs.Lists.{sum}
 use Rattle.words.proofs.Parts.{length-part, length-put, part-put-same, part-put-before, part-put-after, drop-put-after}
 use Rattle.words.proofs.Tests.{and-left, and-right, and-both}
 use Rattle.blocks.specs.Arena.{arenaOf}
 use Rattle.texts.specs.Pool.{Pool}
+use Rattle.texts.specs.Ends.{endsReach}
 use Rattle.texts.specs.Words.{Counted, poolOf}
 use Rattle.texts.specs.declared.TextCounts.{TextCounts}
 use Rattle.names.specs.Words.{nameShown}
 use Rattle.model.specs.Kinds.{Which, children, attributes, namespaces}
 use Rattle.memory.specs.declared.layout.Document.{Document}
 use Rattle.memory.specs.Layout.{limitsOf, entriesOf, arenaAt, textsAt, textsWords, namesAt, namesWords, documentWords, memoryOk}
-use Rattle.memory.specs.Decode.{usedOf, countsWithin, slotsPart, arenaPart, textsPart, namesPart, textLimits, textCounts, nameLimits, nameCounts, shownBelow, poolIn, namesIn, lengthsAdd, documentOf, decode}
+use Rattle.memory.specs.Decode.{usedOf, countsWithin, slotsPart, arenaPart, textsPart, namesPart, textLimits, textCounts, nameLimits, nameCounts, shownBelow, poolIn, namesIn, textsAdd, namesAdd, lengthsAdd, documentOf, decode}
 use Rattle.memory.proofs.Limits.{memory-long, arena-behind-slots, arena-inside, names-next, words-next}
 use Rattle.memory.proofs.Counted.{counts-fit, fit-counts}
 use Rattle.memory.proofs.Shown.{pool-held}
@@ -45,7 +45,7 @@ module _ (d : Document) (mem : List ℕ) (ok : memoryOk d (length mem) ≡ true)
         slots = f .texts;
         free = f .free-texts;
         bytes = f .text-bytes;
-        sums = eqb-true _ _ (and-left (eqb (sum (take (d .counts .texts) (textsPart d mem))) (d .counts .textbytes)) (eqb (sum (take (d .counts .names + d .counts .names) (namesPart d mem))) (d .counts .namebytes)) e);
+        ends = and-left (textsAdd d mem) (namesAdd d mem) e;
       }
 
   -- ---- other words of the texts
@@ -93,10 +93,10 @@ module _ (d : Document) (mem : List ℕ) (ok : memoryOk d (length mem) ≡ true)
     lengths-are : lengthsAdd e after ≡ lengthsAdd d mem
     unfolding lengthsAdd
     lengths-are =
-        and-both (eqb (sum (take (t .slots) (textsPart d after))) (t .bytes)) (eqb (sum (take (d .counts .names + d .counts .names) (namesPart d after))) (d .counts .namebytes))
-        (eq-eqb _ _ (ap (λ (x : List ℕ). sum (take (t .slots) x)) texts-are ∙ c .sums))
+        and-both (textsAdd e after) (namesAdd e after)
+        (ap (λ (x : List ℕ). endsReach 0 (take (t .slots) x) (t .bytes)) texts-are ∙ c .ends)
         (ap (λ (x : List ℕ). eqb (sum (take (d .counts .names + d .counts .names) x)) (d .counts .namebytes)) names-same
-        ∙ and-right (eqb (sum (take (d .counts .texts) (textsPart d mem))) (d .counts .textbytes)) (eqb (sum (take (d .counts .names + d .counts .names) (namesPart d mem))) (d .counts .namebytes)) lengths)
+        ∙ and-right (textsAdd d mem) (namesAdd d mem) lengths)
         ∙ sym lengths
 
     used-same : (v : Which) → usedOf (poolCounts (d .counts) t) v ≡ usedOf (d .counts) v

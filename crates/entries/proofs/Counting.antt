@@ -2,6 +2,7 @@
 -- Assumes nothing.
 use mathlib.Core.Path.{_≡_, refl, sym, ap, _∙_, subst}
 use mathlib.Core.Bool.{Bool, true, false, not, _&&_, cond, false≢true}
+use mathlib.Core.Option.{Option}
 use mathlib.Core.List.{List, [], _∷_, _++_, map}
 use Prim.Native.Nat.{ℕ, _+_, _%_, _≤_, _<_, max}
 use native.Mathlib.Decide.{ℕ-discrete}
@@ -13,35 +14,29 @@ use Rattle.words.specs.Parts.{part}
 use Rattle.words.specs.Lists.{all, allBelow}
 use Rattle.words.proofs.Parts.{length-part, getD-part}
 use Rattle.blocks.specs.Arena.{listOf, capOf}
-use Rattle.slots.specs.Regions.{generationAt}
-use Rattle.slots.specs.Handles.{handleIndex, handleGeneration, wordOf, idOf}
-use Rattle.slots.proofs.Handles.{wordOf-idOf}
+use Rattle.slots.specs.Handles.{handleIndex, wordOf}
 use Rattle.slots.specs.declared.NodeId.{NodeId}
-use Rattle.slots.specs.declared.Node.{Node}
 use Rattle.slots.specs.declared.Range.{Range}
 use Rattle.slots.specs.declared.Parent.{Parent}
 use Rattle.slots.specs.declared.Parent.the-variants as parent
-use Rattle.slots.specs.declared.Loaded.{Loaded}
-use Rattle.slots.specs.declared.Loaded.the-variants.{Found, NoNode}
-use Rattle.model.specs.Kinds.{Which, children, attributes, namespaces, sameWhich, whichOf}
-use Rattle.model.specs.Doc.{Doc, handleWord, liveSlot, handleAt, resolves, kindAt, parentIn, parentAt, rangeIn, anyOption}
+use Rattle.model.specs.Kinds.{Kind, root, element, attribute, text, comment, namespace, instruction, Which, children, attributes, namespaces, sameWhich, whichOf}
+use Rattle.model.specs.Doc.{Doc, liveSlot, handleAt, resolves, kindIn, parentIn, rangeIn, anyOption}
 use Rattle.model.specs.Rules.{blockIn, Blocks}
 use Rattle.model.specs.RulesTest.{implies, allOption, allWhich, parentsHold, entriesHold, blocksHold}
 use Rattle.model.proofs.RulesTestEntries.{parents-of-test}
 use Rattle.model.proofs.RulesTestBlocks.{blocks-of-test}
 use Rattle.memory.specs.declared.layout.Document.{Document}
 use Rattle.memory.specs.Layout.{entriesOf, memoryOk}
-use Rattle.memory.specs.Decode.{kindOf, handleOf, blockOf, rangeOf, slotsPart, slotsMade, arenaIn, resolvedIn}
+use Rattle.memory.specs.Decode.{handleOf, blockOf, slotsMade, arenaIn}
 use Rattle.memory.proofs.Columns as columns
 use Rattle.memory.proofs.Limits.{sizes}
 use Rattle.memory.proofs.Shaped.{length-ids, shape}
-use Rattle.entries.specs.Nodes.{noTexts, decodeNodes, liveAt}
+use Rattle.entries.specs.Nodes.{noTexts, decodeNodes, kindNumber}
 use Rattle.entries.specs.Marks.{raised, Counted, Pass, Adds, gathered}
-use Rattle.entries.specs.Entering.{listNumber, enters, entriesIn, entriesEnter, slotsEntered, slotsListed, markedOnce}
+use Rattle.entries.specs.Entering.{listNumber, kindList, enters, entriesIn, entriesEnter, slotsEntered, slotsListed, markedOnce}
 use Rattle.entries.proofs.Lists.{gathered-map, allBelow-all}
 use Rattle.entries.proofs.Marks.{counted-none, adds-none, adds-then, adds-one, passed, refused, Passing, passing-next, passing-not, passing-all}
 use Rattle.entries.proofs.Entering.{entry-below, entries-no, entries-yes}
-use Rattle.entries.proofs.Live.{LiveNode, live-found, live-none}
 
 -- ---- the tests of one entry
 
@@ -62,34 +57,36 @@ list-is v w a b e q = rw (e, q) (go v w)
     go namespaces attributes = refl
     go namespaces namespaces = refl
 
-module _ (d : Document) (mem : List ℕ) (w : Which) (owner entry : ℕ) (word : entry < 18446744073709551616) where
-  abbrev D : Doc
-  D = decodeNodes d mem
+list-kind : (k : Kind ℕ (Option ℕ)) → kindList (kindNumber k) ≡ listNumber (whichOf k)
+unfolding kindList
+list-kind root = refl
+list-kind (element n) = refl
+list-kind (attribute n v) = refl
+list-kind (text t) = refl
+list-kind (comment t) = refl
+list-kind (namespace p u) = refl
+list-kind (instruction t d) = refl
 
-  low : handleIndex entry < 4294967296
-  low = omega arith
+pub list-of-child : (kind : ℕ) → (kind ≡ 2 → ⊥) → (kind ≡ 5 → ⊥) → 0 ≡ kindList kind
+unfolding kindList
+list-of-child kind a n = sym (rw (ne-eqb kind 2 a, ne-eqb kind 5 n))
 
-  high : handleGeneration entry < 4294967296
-  high = omega arith
+pub kind-in-list : (k : Kind ℕ (Option ℕ)) (w : Which) (kind a b : ℕ) → kind ≡ kindNumber k → a ≡ kindList kind → b ≡ listNumber w → eqb a b ≡ sameWhich (whichOf k) w
+kind-in-list k w kind a b e q h = list-is (whichOf k) w a b (q ∙ ap kindList e ∙ list-kind k) h
 
-  pub entry-found : (id : NodeId) (node : Loaded) (m : Node) (a b r : Bool) → id ≡ idOf entry → node ≡ resolvedIn d mem id → node ≡ Found m
-      → a ≡ anyOption (eqb owner) (handleOf (m .parent)) → b ≡ sameWhich (whichOf (kindOf (m .«data»))) w → r ≡ (a && b)
-      → r ≡ enters (decodeNodes d mem) w owner entry
+module _ (D : Doc) (w : Which) (owner entry : ℕ) (t : Bool) (e : t ≡ resolves D entry) where
+  pub entry-current : t ≡ true → (a b r : Bool) → a ≡ anyOption (eqb owner) (parentIn D (entry % 4294967296))
+      → b ≡ sameWhich (whichOf (kindIn D (entry % 4294967296))) w → r ≡ (a && b) → r ≡ enters D w owner entry
   unfolding enters
-  entry-found id node m a b r ei en ef ea eb er =
-      let f : resolvedIn d mem (idOf entry) ≡ Found m = ap (resolvedIn d mem) (sym ei) ∙ sym en ∙ ef in
-      let k = columns.resolved-found noTexts [] true d mem (idOf entry) low high m f in
-      let res : resolves D entry ≡ true = ap (resolves D) (sym (wordOf-idOf entry)) ∙ k .resolves-handle in
-      let par : parentAt D entry ≡ handleOf (m .parent) = columns.parent-found noTexts [] true d mem (handleIndex entry) (k .slot-made) m (k .loaded) in
-      let kin : kindAt D entry ≡ kindOf (m .«data») = columns.kind-found noTexts [] true d mem (handleIndex entry) (k .slot-made) m (k .loaded) in
-      er ∙ rw (ea, eb) (sym (rw (res, par, kin)))
+  entry-current y a b r ea eb er =
+      let res : resolves D entry ≡ true = sym e ∙ y in
+      er ∙ rw (ea, eb) (sym (rw res))
 
-  pub entry-none : (id : NodeId) (node : Loaded) → id ≡ idOf entry → node ≡ resolvedIn d mem id → node ≡ NoNode → false ≡ enters (decodeNodes d mem) w owner entry
+  pub entry-stale : t ≡ false → false ≡ enters D w owner entry
   unfolding enters
-  entry-none id node ei en ef =
-      let f : resolvedIn d mem (idOf entry) ≡ NoNode = ap (resolvedIn d mem) (sym ei) ∙ sym en ∙ ef in
-      let res : resolves D entry ≡ false = ap (resolves D) (sym (wordOf-idOf entry)) ∙ columns.resolved-none noTexts [] true d mem (idOf entry) low high f in
-      rw res
+  entry-stale n =
+      let res : resolves D entry ≡ false = sym e ∙ n in
+      sym (rw res)
 
 -- ---- an entry is counted
 
@@ -166,39 +163,30 @@ block-inside D B w s l =
         go (yes e) = omega arith
         go (no e) = rw (ne-eqb n 0 e) (omega arith)
 
-module _ (d : Document) (mem : List ℕ) (w : Which) (s : ℕ) (b : s < slotsMade d) (before : List ℕ) where
-  module _ (node : Loaded) (m : Node) (r : Range) (f : node ≡ liveAt d mem s) (k : node ≡ Found m) (e : blockOf r ≡ rangeOf w m) where
-    here : LiveNode (decodeNodes d mem) s m
-    here = live-found d mem s noTexts [] true b m (sym f ∙ k)
-
-    range-here : rangeIn (decodeNodes d mem) w s ≡ blockOf r
-    range-here = here .range w ∙ sym e
-
+module _ (d : Document) (mem : List ℕ) (w : Which) (s : ℕ) (before : List ℕ) (t : Bool) (f : t ≡ liveSlot (decodeNodes d mem) s) where
+  module _ (y : t ≡ true) (r : Range) (e : blockOf r ≡ rangeIn (decodeNodes d mem) w s) where
     pub list-inside : memoryOk d (length mem) ≡ true → blocksHold (decodeNodes d mem) ≡ true → r .start + r .len ≤ entriesOf (d .limits) w
     list-inside ok h =
-        let i = block-inside (decodeNodes d mem) (blocks-of-test (decodeNodes d mem) (shape noTexts [] true d mem ok) h) w s (here .live) in
-        omega (arith, rw range-here at i, length-ids d mem ok w)
+        let i = block-inside (decodeNodes d mem) (blocks-of-test (decodeNodes d mem) (shape noTexts [] true d mem ok) h) w s (sym f ∙ y) in
+        omega (arith, rw (sym e) at i, length-ids d mem ok w)
 
     entries-here : entriesIn (decodeNodes d mem) w s ≡ listOf (arenaIn d w mem) (blockOf r)
     unfolding entriesIn
-    entries-here = rw (here .live) (ap (listOf (arenaIn d w mem)) range-here)
+    entries-here = rw (sym f ∙ y) (ap (listOf (arenaIn d w mem)) (sym e))
 
-    pub list-counted : (owner : ℕ) → owner ≡ handleWord s (generationAt (d .limits .nodes) (slotsPart d mem) s) → (after : List ℕ) (t : Bool)
-        → Pass (slotsMade d) (all (enters (decodeNodes d mem) w owner) (listOf (arenaIn d w mem) (blockOf r))) (map handleIndex (listOf (arenaIn d w mem) (blockOf r))) before after t
-        → Pass (slotsMade d) (entriesEnter (decodeNodes d mem) w s) (slotsEntered (decodeNodes d mem) w s) before after t
+    pub list-counted : (owner : ℕ) → owner ≡ handleAt (decodeNodes d mem) s → (after : List ℕ) (u : Bool)
+        → Pass (slotsMade d) (all (enters (decodeNodes d mem) w owner) (listOf (arenaIn d w mem) (blockOf r))) (map handleIndex (listOf (arenaIn d w mem) (blockOf r))) before after u
+        → Pass (slotsMade d) (entriesEnter (decodeNodes d mem) w s) (slotsEntered (decodeNodes d mem) w s) before after u
     unfolding entriesEnter slotsEntered
-    list-counted owner q after t p =
-        let o : handleAt (decodeNodes d mem) s ≡ owner = columns.handle-in noTexts [] true d mem s b ∙ sym q in
-        rw (o, entries-here) p
+    list-counted owner q after u p = rw (sym q, entries-here) p
 
-  no-entries : (node : Loaded) → node ≡ liveAt d mem s → node ≡ NoNode → entriesIn (decodeNodes d mem) w s ≡ []
+  no-entries : t ≡ false → entriesIn (decodeNodes d mem) w s ≡ []
   unfolding entriesIn
-  no-entries node f k = rw (live-none d mem s noTexts [] true b (sym f ∙ k))
+  no-entries n = rw (sym f ∙ n)
 
-  pub list-none : (node : Loaded) → node ≡ liveAt d mem s → node ≡ NoNode
-      → Pass (slotsMade d) (entriesEnter (decodeNodes d mem) w s) (slotsEntered (decodeNodes d mem) w s) before before true
+  pub list-none : t ≡ false → Pass (slotsMade d) (entriesEnter (decodeNodes d mem) w s) (slotsEntered (decodeNodes d mem) w s) before before true
   unfolding entriesEnter slotsEntered
-  list-none node f k = rw (no-entries node f k) (record { answer = refl; counts = λ _. adds-none (slotsMade d) before })
+  list-none n = rw (no-entries n) (record { answer = refl; counts = λ _. adds-none (slotsMade d) before })
 
 -- ---- the three arenas
 
@@ -233,15 +221,13 @@ module _ (D : Doc) (n : ℕ) (before a : List ℕ) (t : Bool) where
 pub parent-marked : (p : Parent) (id : NodeId) (mark : ℕ) → p ≡ parent.Of id → eqb mark 1 ≡ allOption (λ _. eqb mark 1) (handleOf p)
 parent-marked p id mark e = rw e
 
-module _ (d : Document) (mem : List ℕ) (s mark : ℕ) (b : s < slotsMade d) (node : Loaded) (f : node ≡ liveAt d mem s) where
-  pub entered-found : (m : Node) (r : Bool) → node ≡ Found m → r ≡ allOption (λ _. eqb mark 1) (handleOf (m .parent))
-      → r ≡ implies (liveSlot (decodeNodes d mem) s) (allOption (λ _. eqb mark 1) (parentIn (decodeNodes d mem) s))
-  entered-found m r k e =
-      let h = live-found d mem s noTexts [] true b m (sym f ∙ k) in
-      e ∙ sym (rw (h .live, h .parent))
+module _ (D : Doc) (s mark : ℕ) (t : Bool) (f : t ≡ liveSlot D s) where
+  pub entered-live : t ≡ true → (p : Parent) (r : Bool) → handleOf p ≡ parentIn D s → r ≡ allOption (λ _. eqb mark 1) (handleOf p)
+      → r ≡ implies (liveSlot D s) (allOption (λ _. eqb mark 1) (parentIn D s))
+  entered-live y p r e q = q ∙ ap (allOption (λ _. eqb mark 1)) e ∙ sym (rw (sym f ∙ y))
 
-  pub entered-none : node ≡ NoNode → true ≡ implies (liveSlot (decodeNodes d mem) s) (allOption (λ _. eqb mark 1) (parentIn (decodeNodes d mem) s))
-  entered-none k = rw (live-none d mem s noTexts [] true b (sym f ∙ k))
+  pub entered-free : t ≡ false → true ≡ implies (liveSlot D s) (allOption (λ _. eqb mark 1) (parentIn D s))
+  entered-free n = sym (rw (sym f ∙ n))
 
 pub marked-is : (D : Doc) (marks : List ℕ) (i : ℕ) (r : Bool) → r ≡ implies (liveSlot D i) (allOption (λ _. eqb (getD marks i 0) 1) (parentIn D i)) → r ≡ markedOnce D marks i
 unfolding markedOnce

@@ -9,25 +9,18 @@ use native.Mathlib.Omega.{arith}
 use lib.ListN.{length, getD, set}
 use lib.Dec.{ltb}
 use borrow.Author.Tests.{lt-ltb, le-ltb}
-use Rattle.slots.specs.Records.{firstText, secondText}
 use Rattle.slots.specs.declared.TextSlot.{TextSlot}
 use Rattle.slots.specs.declared.Chars.{Chars}
 use Rattle.slots.specs.declared.Chars.the-variants.{Empty, Expanded}
-use Rattle.slots.specs.declared.NodeData.{NodeData}
-use Rattle.slots.specs.declared.NodeData.the-variants as given
-use Rattle.slots.specs.declared.Node.{Node}
-use Rattle.slots.specs.declared.Loaded.{Loaded}
-use Rattle.slots.specs.declared.Loaded.the-variants.{Found, NoNode}
 use Rattle.words.specs.Lists.{all}
-use Rattle.model.specs.Kinds.{namesOf, textsOf}
+use Rattle.model.specs.Kinds.{Kind, root, element, attribute, text, comment, namespace, instruction, textsOf}
+use Rattle.model.specs.Doc.{Doc, liveSlot, kindIn}
 use Rattle.model.specs.Rules.{heldIn, slotsHeld}
-use Rattle.memory.specs.declared.layout.Document.{Document}
-use Rattle.memory.specs.Decode.{kindOf, slotOf, slotsMade}
-use Rattle.entries.specs.Nodes.{noTexts, decodeNodes, liveAt}
+use Rattle.memory.specs.Decode.{slotOf}
+use Rattle.entries.specs.Nodes.{kindNumber, nameNumber, firstSlot, secondSlot}
 use Rattle.entries.specs.Marks.{raised, Pass, Adds}
 use Rattle.entries.specs.Fields.{slotsInside, namesInside, fieldsHold}
 use Rattle.entries.proofs.Marks.{adds-none, adds-then, adds-one, passed, refused}
-use Rattle.entries.proofs.Live.{LiveNode, live-found, live-none}
 
 -- the marks have kept their number
 pub pass-at : (n k : ℕ) (t : Bool) (l a b : List ℕ) (r : Bool) → n ≡ k → Pass n t l a b r → Pass k t l a b r
@@ -35,21 +28,40 @@ pass-at n k t l a b r e p = subst (λ (m : ℕ). Pass m t l a b r) e p
 
 -- ---- a name number
 
-module _ (x : NodeData) (n names : ℕ) (r : Bool) (e : r ≡ ltb n names) where
-  one-name : r ≡ (ltb n names && true)
-  one-name = e ∙ go (ltb n names)
-    where
-      go : (t : Bool) → t ≡ (t && true)
-      go true = refl
-      go false = refl
+one-name : (t : Bool) → t ≡ (t && true)
+one-name true = refl
+one-name false = refl
 
-  pub name-inside : namesOf (kindOf x) ≡ n ∷ [] → r ≡ namesInside names (kindOf x)
+module _ (names kind : ℕ) where
+  pub name-none : (k : Kind ℕ (Option ℕ)) → kind ≡ kindNumber k → kind ≡ 0 → true ≡ namesInside names k
   unfolding namesInside
-  name-inside q = rw q one-name
+  name-none root e z = refl
+  name-none (element n) e z = absurd (omega arith)
+  name-none (attribute n v) e z = absurd (omega arith)
+  name-none (text t) e z = refl
+  name-none (comment t) e z = refl
+  name-none (namespace p u) e z = refl
+  name-none (instruction t d) e z = refl
 
-pub no-name : (x : NodeData) (names : ℕ) → namesOf (kindOf x) ≡ [] → true ≡ namesInside names (kindOf x)
-unfolding namesInside
-no-name x names q = rw q
+  pub name-later : (k : Kind ℕ (Option ℕ)) → kind ≡ kindNumber k → 2 < kind → true ≡ namesInside names k
+  unfolding namesInside
+  name-later root e z = refl
+  name-later (element n) e z = absurd (omega arith)
+  name-later (attribute n v) e z = absurd (omega arith)
+  name-later (text t) e z = refl
+  name-later (comment t) e z = refl
+  name-later (namespace p u) e z = refl
+  name-later (instruction t d) e z = refl
+
+  pub name-inside : (k : Kind ℕ (Option ℕ)) → kind ≡ kindNumber k → (kind ≡ 0 → ⊥) → kind ≤ 2 → (name : ℕ) → name ≡ nameNumber k → ltb name names ≡ namesInside names k
+  unfolding namesInside
+  name-inside root e z h name q = absurd (z e)
+  name-inside (element n) e z h name q = ap (λ (m : ℕ). ltb m names) q ∙ one-name (ltb n names)
+  name-inside (attribute n v) e z h name q = ap (λ (m : ℕ). ltb m names) q ∙ one-name (ltb n names)
+  name-inside (text t) e z h name q = absurd (omega arith)
+  name-inside (comment t) e z h name q = absurd (omega arith)
+  name-inside (namespace p u) e z h name q = absurd (omega arith)
+  name-inside (instruction t d) e z h name q = absurd (omega arith)
 
 -- ---- a text field
 
@@ -115,40 +127,39 @@ module _ (a b : Chars) (texts : ℕ) where
 
 -- ---- the fields of a node
 
-fields-of : (x : NodeData) → slotsHeld (textsOf (kindOf x)) ≡ slotsHeld (slotOf (firstText x) ∷ slotOf (secondText x) ∷ [])
-fields-of x = go x
+fields-of : (k : Kind ℕ (Option ℕ)) → slotsHeld (textsOf k) ≡ slotsHeld (firstSlot k ∷ secondSlot k ∷ [])
+fields-of k = go k
   where
     one : (o : Option ℕ) → slotsHeld (o ∷ []) ≡ slotsHeld (o ∷ none ∷ [])
     one none = refl
     one (some s) = refl
 
-    go : (x : NodeData) → slotsHeld (textsOf (kindOf x)) ≡ slotsHeld (slotOf (firstText x) ∷ slotOf (secondText x) ∷ [])
-    go given.Root = refl
-    go (given.Element n a s) = refl
-    go (given.Attr n v) = one (slotOf v)
-    go (given.Text v) = one (slotOf v)
-    go (given.Comment v) = one (slotOf v)
-    go (given.Namespace p u) = refl
-    go (given.ProcessingInstruction t d) = refl
+    go : (k : Kind ℕ (Option ℕ)) → slotsHeld (textsOf k) ≡ slotsHeld (firstSlot k ∷ secondSlot k ∷ [])
+    go root = refl
+    go (element n) = refl
+    go (attribute n v) = one v
+    go (text t) = one t
+    go (comment t) = one t
+    go (namespace p u) = refl
+    go (instruction t d) = refl
 
-module _ (d : Document) (mem : List ℕ) (s texts names : ℕ) (b : s < slotsMade d) (marks : List ℕ) (node : Loaded) (f : node ≡ liveAt d mem s) where
-  pub node-none : node ≡ NoNode → Pass (length marks) (fieldsHold texts names (decodeNodes d mem) s) (heldIn (decodeNodes d mem) s) marks marks true
+module _ (D : Doc) (s texts names : ℕ) (marks : List ℕ) (t : Bool) (f : t ≡ liveSlot D s) where
+  pub node-none : not t ≡ true → Pass (length marks) (fieldsHold texts names D s) (heldIn D s) marks marks true
   unfolding fieldsHold
-  node-none k = rw (live-none d mem s noTexts [] true b (sym f ∙ k)) (record { answer = refl; counts = λ _. adds-none (length marks) marks })
+  node-none n = rw (sym f ∙ refused t n) (record { answer = refl; counts = λ _. adds-none (length marks) marks })
 
-  module _ (m : Node) (k : node ≡ Found m) (t : Bool) (e : t ≡ namesInside names (kindOf (m .«data»))) where
-    here : LiveNode (decodeNodes d mem) s m
-    here = live-found d mem s noTexts [] true b m (sym f ∙ k)
+  module _ (y : not t ≡ false) where
+    pub node-live : liveSlot D s ≡ true
+    node-live = sym f ∙ passed t y
 
-    pub node-refused : not t ≡ true → Pass (length marks) (fieldsHold texts names (decodeNodes d mem) s) (heldIn (decodeNodes d mem) s) marks marks false
-    unfolding fieldsHold
-    node-refused q =
-        rw (here .live, here .kind) (record { answer = rw (← e, refused t q); counts = λ z. absurd (false≢true z) })
+    module _ (u : Bool) (e : u ≡ namesInside names (kindIn D s)) where
+      pub node-refused : not u ≡ true → Pass (length marks) (fieldsHold texts names D s) (heldIn D s) marks marks false
+      unfolding fieldsHold
+      node-refused q = rw node-live (record { answer = rw (← e, refused u q); counts = λ z. absurd (false≢true z) })
 
-    pub node-counted : not t ≡ false → (first second : Chars) → first ≡ firstText (m .«data») → second ≡ secondText (m .«data») → (after : List ℕ) (r : Bool)
-        → Pass (length marks) (slotsInside texts (slotsHeld (slotOf first ∷ slotOf second ∷ []))) (slotsHeld (slotOf first ∷ slotOf second ∷ [])) marks after r
-        → Pass (length marks) (fieldsHold texts names (decodeNodes d mem) s) (heldIn (decodeNodes d mem) s) marks after r
-    unfolding fieldsHold
-    node-counted q first second ef es after r p =
-        let g = fields-of (m .«data») in
-        rw (here .live, here .kind, g, ← e, passed t q, ← ef, ← es) p
+      pub node-counted : not u ≡ false → (first second : Chars) → slotOf first ≡ firstSlot (kindIn D s) → slotOf second ≡ secondSlot (kindIn D s) → (after : List ℕ) (r : Bool)
+          → Pass (length marks) (slotsInside texts (slotsHeld (slotOf first ∷ slotOf second ∷ []))) (slotsHeld (slotOf first ∷ slotOf second ∷ [])) marks after r
+          → Pass (length marks) (fieldsHold texts names D s) (heldIn D s) marks after r
+      unfolding fieldsHold
+      node-counted q first second ef es after r p =
+          rw (node-live, fields-of (kindIn D s), ← e, passed u q, ← ef, ← es) p

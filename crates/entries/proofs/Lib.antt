@@ -1,7 +1,7 @@
 pub mod Lists
 pub mod Marks
 pub mod Entering
-pub mod Live
+pub mod Words
 pub mod Counting
 pub mod Paths
 pub mod Fields

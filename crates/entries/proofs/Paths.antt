@@ -15,12 +15,9 @@ use Rattle.words.specs.Lists.{countOf}
 use Rattle.words.proofs.Lists.{length-tabulate}
 use Rattle.slots.specs.Handles.{handleIndex, wordOf}
 use Rattle.slots.specs.declared.NodeId.{NodeId}
-use Rattle.slots.specs.declared.Node.{Node}
 use Rattle.slots.specs.declared.Parent.{Parent}
 use Rattle.slots.specs.declared.Parent.the-variants as parent
-use Rattle.slots.specs.declared.Loaded.{Loaded}
-use Rattle.slots.specs.declared.Loaded.the-variants.{Found, NoNode}
-use Rattle.model.specs.Doc.{Doc, liveSlot, parentIn, mapOption, orElse}
+use Rattle.model.specs.Doc.{Doc, liveSlot, resolves, parentIn, mapOption, orElse}
 use Rattle.model.specs.Rules.{Ends}
 use Rattle.model.specs.RulesTest.{allOption, allLive, endsWithin, parentsHold, parentsEndHolds}
 use Rattle.model.proofs.Basics.{live-below}
@@ -30,10 +27,10 @@ use Rattle.model.proofs.RulesTestPaths.{test-of-ends}
 use Rattle.memory.specs.declared.layout.Document.{Document}
 use Rattle.memory.specs.Decode.{handleOf, parentLoaded, loadedAt, slotsPart, slotsMade}
 use Rattle.memory.proofs.Columns as columns
-use Rattle.entries.specs.Nodes.{noTexts, decodeNodes, liveAt}
+use Rattle.entries.specs.Nodes.{noTexts, decodeNodes}
 use Rattle.entries.specs.Paths.{parentSlot, Known, Followed, Passed}
-use Rattle.entries.proofs.Live.{live-found, live-none}
 use Rattle.entries.proofs.Marks.{passed, refused}
+use Rattle.entries.proofs.Words.{current-live}
 
 -- ---- over the document
 
@@ -42,6 +39,15 @@ pub record Following (D : Doc) (s at k : ℕ) : Type 0 where
   pub steps : k ≤ length (D .gens)
   pub ends : Ends D at → Ends D s
   pub within : at < length (D .gens) → endsWithin (length (D .gens)) D s ≡ endsWithin (length (D .gens) - k) D at
+  pub live : at < length (D .gens) → liveSlot D at ≡ true
+
+-- a live slot's parent is live, where rule 3 holds
+pub parent-live : (D : Doc) → parentsHold D ≡ true → (i p : ℕ) → liveSlot D i ≡ true → p ≡ parentSlot D i → p < length (D .gens) → liveSlot D p ≡ true
+parent-live D h i p l e b = rw e (go (parentIn D i) refl (rw e at b))
+  where
+    go : (o : Option ℕ) → parentIn D i ≡ o → orElse (length (D .gens)) (mapOption handleIndex o) < length (D .gens) → liveSlot D (orElse (length (D .gens)) (mapOption handleIndex o)) ≡ true
+    go none q c = absurd (omega arith)
+    go (some x) q c = current-live D x (resolves D x) refl (parents-of-test D h .owner i x l q .0)
 
 module _ (D : Doc) (one : length (D .parents) ≡ length (D .gens)) where
   -- past the slots made there is no parent
@@ -73,8 +79,9 @@ module _ (D : Doc) (one : length (D .parents) ≡ length (D .gens)) where
 
   -- ---- following
 
-  pub follow-start : (s : ℕ) → Following D s s 0
-  follow-start s = record {
+  pub follow-start : (s : ℕ) → liveSlot D s ≡ true → Following D s s 0
+  follow-start s l = record {
+    live = λ _. l;
     steps = omega arith;
     ends = λ r. r;
     within = λ h.
@@ -82,8 +89,9 @@ module _ (D : Doc) (one : length (D .parents) ≡ length (D .gens)) where
         ap (λ (f : ℕ). endsWithin f D s) e;
   }
 
-  follow-next : (s at k : ℕ) → Following D s at k → k < length (D .gens) → at < length (D .gens) → Following D s (parentSlot D at) (k + 1)
-  follow-next s at k F h b = record {
+  follow-next : (s at k : ℕ) → parentsHold D ≡ true → Following D s at k → k < length (D .gens) → at < length (D .gens) → Following D s (parentSlot D at) (k + 1)
+  follow-next s at k r F h b = record {
+    live = parent-live D r at (parentSlot D at) (F .live b) refl;
     steps = omega arith;
     ends = λ r. F .ends (end-below at r);
     within = λ c.
@@ -91,8 +99,8 @@ module _ (D : Doc) (one : length (D .parents) ≡ length (D .gens)) where
         F .within b ∙ ap (λ (f : ℕ). endsWithin f D at) e ∙ step-within at (length (D .gens) - (k + 1)) c;
   }
 
-  pub follow-step : (s at k p : ℕ) → Following D s at k → k < length (D .gens) → at < length (D .gens) → p ≡ parentSlot D at → Following D s p (k + 1)
-  follow-step s at k p F h b e = subst (λ (q : ℕ). Following D s q (k + 1)) (sym e) (follow-next s at k F h b)
+  pub follow-step : (s at k p : ℕ) → parentsHold D ≡ true → Following D s at k → k < length (D .gens) → at < length (D .gens) → p ≡ parentSlot D at → Following D s p (k + 1)
+  follow-step s at k p r F h b e = subst (λ (q : ℕ). Following D s q (k + 1)) (sym e) (follow-next s at k r F h b)
 
   pub follow-past : (s at k : ℕ) → Following D s at k → length (D .gens) ≤ at → Followed D s true
   follow-past s at k F h = record { ends = λ _. F .ends (past-ends at h); lost = λ e. absurd (true≢false e) }
@@ -152,38 +160,32 @@ parents-made d mem = length-tabulate (λ s. parentLoaded (loadedAt (d .limits .n
 pub gens-made : (d : Document) (mem : List ℕ) → length (decodeNodes d mem .gens) ≡ slotsMade d
 gens-made d mem = columns.length-gens noTexts [] true d mem
 
-module _ (d : Document) (mem : List ℕ) (s past : ℕ) (b : s < slotsMade d) (e : past ≡ slotsMade d) (node : Loaded) (f : node ≡ loadedAt (d .limits .nodes) (slotsPart d mem) s) where
-  pub parent-slot-found : (m : Node) (r : ℕ) → node ≡ Found m → r ≡ orElse past (mapOption handleIndex (handleOf (m .parent))) → r ≡ parentSlot (decodeNodes d mem) s
-  parent-slot-found m r k q =
-      q
-      ∙ ap (λ (z : ℕ). orElse z (mapOption handleIndex (handleOf (m .parent)))) (e ∙ sym (gens-made d mem))
-      ∙ ap (λ (o : Option ℕ). orElse (length (decodeNodes d mem .gens)) (mapOption handleIndex o)) (sym (columns.parent-found noTexts [] true d mem s b m (sym f ∙ k)))
-
-  pub parent-slot-none : node ≡ NoNode → past ≡ parentSlot (decodeNodes d mem) s
-  parent-slot-none k =
-      e
-      ∙ sym (gens-made d mem)
-      ∙ ap (λ (o : Option ℕ). orElse (length (decodeNodes d mem .gens)) (mapOption handleIndex o)) (sym (columns.parent-in noTexts [] true d mem s b ∙ ap parentLoaded (sym f ∙ k)))
+pub parent-slot : (d : Document) (mem : List ℕ) (s past r : ℕ) (p : Parent) → handleOf p ≡ parentIn (decodeNodes d mem) s → past ≡ slotsMade d
+    → r ≡ orElse past (mapOption handleIndex (handleOf p)) → r ≡ parentSlot (decodeNodes d mem) s
+parent-slot d mem s past r p e f q =
+    q
+    ∙ ap (λ (z : ℕ). orElse z (mapOption handleIndex (handleOf p))) (f ∙ sym (gens-made d mem))
+    ∙ ap (λ (o : Option ℕ). orElse (length (decodeNodes d mem .gens)) (mapOption handleIndex o)) e
 
 -- ---- a slot's path is passed
 
-module _ (d : Document) (mem : List ℕ) (s : ℕ) (b : s < slotsMade d) (node : Loaded) (f : node ≡ liveAt d mem s) where
-  pub pass-none : node ≡ NoNode → (marks : List ℕ) → Known (decodeNodes d mem) marks → Passed (decodeNodes d mem) s marks true
-  pass-none k marks K = record {
+module _ (D : Doc) (s : ℕ) (t : Bool) (f : t ≡ liveSlot D s) where
+  pub pass-free : t ≡ false → (marks : List ℕ) → Known D marks → Passed D s marks true
+  pass-free n marks K = record {
     known = λ _. K;
-    ends = λ _ l. absurd (false≢true (sym (live-none d mem s noTexts [] true b (sym f ∙ k)) ∙ l));
+    ends = λ _ l. absurd (false≢true (sym n ∙ f ∙ l));
     lost = λ e. absurd (true≢false e);
   }
 
-  module _ (m : Node) (k : node ≡ Found m) (r : Bool) (F : Followed (decodeNodes d mem) s r) (after : List ℕ) where
-    pub pass-lost : not r ≡ true → Passed (decodeNodes d mem) s after false
+  module _ (y : t ≡ true) (r : Bool) (F : Followed D s r) (after : List ℕ) where
+    pub pass-lost : not r ≡ true → Passed D s after false
     pass-lost e = record {
       known = λ z. absurd (false≢true z);
       ends = λ z _. absurd (false≢true z);
-      lost = λ _. (live-found d mem s noTexts [] true b m (sym f ∙ k) .live, F .lost (refused r e));
+      lost = λ _. (sym f ∙ y, F .lost (refused r e));
     }
 
-    pub pass-marked : not r ≡ false → Known (decodeNodes d mem) after → Passed (decodeNodes d mem) s after true
+    pub pass-marked : not r ≡ false → Known D after → Passed D s after true
     pass-marked e K = record { known = λ _. K; ends = λ _ _. F .ends (passed r e); lost = λ z. absurd (true≢false z) }
 
 -- ---- rule 6

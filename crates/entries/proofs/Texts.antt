@@ -14,13 +14,14 @@ use Rattle.words.specs.Parts.{part}
 use Rattle.words.specs.Lists.{countOf, all, allBelow, sum}
 use Rattle.words.proofs.Parts.{lent, length-part}
 use Rattle.words.proofs.Lists.{length-tabulate, getD-tabulate}
-use Rattle.words.proofs.Tests.{and-left, and-right}
+use Rattle.words.proofs.Tests.{and-left, and-right, eqb-same}
 use Rattle.words.proofs.Lengths.{sum-take-le}
 use Rattle.slots.proofs.Lists.{allBelow-next, allBelow-not, allBelow-same}
+use Rattle.texts.specs.Ends.{startOf, lengthOf}
 use Rattle.texts.specs.Words as pool
 use Rattle.texts.specs.Words.{textShown, freeOk, poolOk, Markable, marked}
 use Rattle.texts.proofs.Lists.{countOf-reverse, marked-at, getD-count, all-count}
-use Rattle.texts.proofs.Words.{shown-text, text-length}
+use Rattle.texts.proofs.Words.{shown-text, text-end, text-length}
 use Rattle.names.specs.Table.{Name, name}
 use Rattle.names.specs.Words.{nameShown, nameThere, partShown, tableOk}
 use Rattle.names.proofs.Words.{there-leb, within-sums}
@@ -30,7 +31,7 @@ use Rattle.model.specs.Rules.{held, heldIn, slotsHeld}
 use Rattle.model.specs.RulesTest.{implies, allLive, textsHold}
 use Rattle.memory.specs.declared.layout.Document.{Document}
 use Rattle.memory.specs.Layout.{limitsOf, textsAt, namesAt, memoryOk}
-use Rattle.memory.specs.Decode.{slotsMade, countsWithin, textLimits, textCounts, nameLimits, nameCounts, textsPart, namesPart, poolIn, shownBelow, namesIn, lengthsAdd, decode}
+use Rattle.memory.specs.Decode.{slotsMade, countsWithin, textLimits, textCounts, nameLimits, nameCounts, textsPart, namesPart, poolIn, shownBelow, namesIn, textsAdd, namesAdd, lengthsAdd, decode}
 use Rattle.memory.proofs.Limits.{limits-fit, memory-limits, memory-long, names-next, words-next, words-fit}
 use Rattle.memory.proofs.Counted.{CountsFit, counts-fit}
 use Rattle.memory.proofs.Columns as columns
@@ -121,7 +122,7 @@ module _ (D : Doc) (marks m : List ℕ) (t : Bool) (texts names n : ℕ)
     markable made words free h b k = record {
       inside = λ i q.
           let y = all-count (freeOk made words) free (getD free i 0) h (getD-count free i q) in
-          let w = ltb-true (getD free i 0) made (and-left (ltb (getD free i 0) made) (eqb (getD words (getD free i 0) 0) 0) y) in
+          let w = ltb-true (getD free i 0) made (and-left (ltb (getD free i 0) made) (eqb (getD words (getD free i 0) 0) (startOf words (getD free i 0))) y) in
           omega arith;
       small = λ s. omega (arith, small-mark s);
     }
@@ -155,13 +156,10 @@ module _ (d : Document) (mem : List ℕ) (ok : memoryOk d (length mem) ≡ true)
   abbrev stack : List ℕ
   stack = part (d .limits .texts) (d .counts .freetexts) (textsPart d mem)
 
-  abbrev textSum : ℕ
-  textSum = sum (take (d .counts .texts) (textsPart d mem))
-
   abbrev nameSum : ℕ
   nameSum = sum (take (d .counts .names + d .counts .names) (namesPart d mem))
 
-  pool-is : poolOk (textLimits d) (textCounts d) (textsPart d mem) ≡ (eqb textSum (d .counts .textbytes) && all (freeOk (d .counts .texts) (textsPart d mem)) stack)
+  pool-is : poolOk (textLimits d) (textCounts d) (textsPart d mem) ≡ (textsAdd d mem && all (freeOk (d .counts .texts) (textsPart d mem)) stack)
   unfolding poolOk
   pool-is =
       rw (
@@ -170,7 +168,7 @@ module _ (d : Document) (mem : List ℕ) (ok : memoryOk d (length mem) ≡ true)
         le-leb (d .counts .textbytes) (d .limits .textbytes) (fit .text-bytes),
       )
 
-  table-is : tableOk (nameLimits d) (nameCounts d) (namesPart d mem) ≡ eqb nameSum (d .counts .namebytes)
+  table-is : tableOk (nameLimits d) (nameCounts d) (namesPart d mem) ≡ namesAdd d mem
   table-is = within-sums (nameLimits d) (nameCounts d) (namesPart d mem) (fit .names) (fit .name-bytes)
 
   texts-made : length (poolIn d mem .texts) ≡ d .counts .texts
@@ -183,11 +181,11 @@ module _ (d : Document) (mem : List ℕ) (ok : memoryOk d (length mem) ≡ true)
       let e : min (d .counts .freetexts) (d .limits .texts) ≡ d .counts .freetexts = omega (arith, fit .free-texts) in
       ap (λ (k : ℕ). reverse (part (d .limits .texts) k (textsPart d mem))) e
 
-  module _ (h : textSum ≡ d .counts .textbytes) where
+  module _ (h : textsAdd d mem ≡ true) where
     counts-held : pool.Counted (textLimits d) (textCounts d) (textsPart d mem)
-    counts-held = record { size = length-texts d mem ok; slots = fit .texts; free = fit .free-texts; bytes = fit .text-bytes; sums = h }
+    counts-held = record { size = length-texts d mem ok; slots = fit .texts; free = fit .free-texts; bytes = fit .text-bytes; ends = h }
 
-    shown-length : (s : ℕ) → s < d .counts .texts → length (getD (poolIn d mem .texts) s []) ≡ getD (textsPart d mem) s 0
+    shown-length : (s : ℕ) → s < d .counts .texts → length (getD (poolIn d mem .texts) s []) ≡ lengthOf (textsPart d mem) s
     shown-length s b =
         ap length
         (getD-tabulate (λ s. textShown (textLimits d) (textCounts d) s (textsPart d mem)) (min (d .counts .texts) (d .limits .texts)) s [] (omega (arith, fit .texts))
@@ -203,8 +201,13 @@ module _ (d : Document) (mem : List ℕ) (ok : memoryOk d (length mem) ≡ true)
         (λ s. ap (λ (n : ℕ). ltb s n && eqb (length (getD (poolIn d mem .texts) s [])) 0) texts-made ∙ go s (decLt s (d .counts .texts)))
       where
         go : (s : ℕ) → Dec (s < d .counts .texts)
-            → (ltb s (d .counts .texts) && eqb (length (getD (poolIn d mem .texts) s [])) 0) ≡ (ltb s (d .counts .texts) && eqb (getD (textsPart d mem) s 0) 0)
-        go s (yes b) = ap (λ (n : ℕ). ltb s (d .counts .texts) && eqb n 0) (shown-length s b)
+            → (ltb s (d .counts .texts) && eqb (length (getD (poolIn d mem .texts) s [])) 0) ≡ (ltb s (d .counts .texts) && eqb (getD (textsPart d mem) s 0) (startOf (textsPart d mem) s))
+        go s (yes b) =
+            let e = text-end (textLimits d) (textCounts d) (textsPart d mem) counts-held s b in
+            ap (λ (t : Bool). ltb s (d .counts .texts) && t)
+            (eqb-same (length (getD (poolIn d mem .texts) s [])) 0 (getD (textsPart d mem) s 0) (startOf (textsPart d mem) s)
+            (λ q. omega (arith, shown-length s b))
+            (λ q. omega (arith, shown-length s b)))
         go s (no b) = rw (le-ltb s (d .counts .texts) (omega arith))
 
   module _ (h : nameSum ≡ d .counts .namebytes) where
@@ -277,7 +280,7 @@ module _ (d : Document) (mem : List ℕ) (ok : memoryOk d (length mem) ≡ true)
 
   -- ---- the test
 
-  lengths-are : (a b : Bool) → eqb textSum (d .counts .textbytes) ≡ a → eqb nameSum (d .counts .namebytes) ≡ b → lengthsAdd d mem ≡ (a && b)
+  lengths-are : (a b : Bool) → textsAdd d mem ≡ a → namesAdd d mem ≡ b → lengthsAdd d mem ≡ (a && b)
   unfolding lengthsAdd
   lengths-are a b e q = rw (e, q)
 
@@ -298,39 +301,39 @@ module _ (d : Document) (mem : List ℕ) (ok : memoryOk d (length mem) ≡ true)
       go false n true = refl
       go false n false = refl
 
-  sum-differs : (textSum ≡ d .counts .textbytes → ⊥) → false ≡ textsHold (decode d mem)
+  ends-differ : textsAdd d mem ≡ false → false ≡ textsHold (decode d mem)
   unfolding textsHold
-  sum-differs n = first-false (lengthsAdd d mem) _ _ _ _ (lengths-are false (eqb nameSum (d .counts .namebytes)) (ne-eqb textSum (d .counts .textbytes) n) refl)
+  ends-differ e = first-false (lengthsAdd d mem) _ _ _ _ (lengths-are false (namesAdd d mem) e refl)
 
-  free-differs : textSum ≡ d .counts .textbytes → all (freeOk (d .counts .texts) (textsPart d mem)) stack ≡ false → false ≡ textsHold (decode d mem)
+  free-differs : textsAdd d mem ≡ true → all (freeOk (d .counts .texts) (textsPart d mem)) stack ≡ false → false ≡ textsHold (decode d mem)
   unfolding textsHold
-  free-differs s n = fourth-false (lengthsAdd d mem) _ _ _ _ (free-is s ∙ n)
+  free-differs e n = fourth-false (lengthsAdd d mem) _ _ _ _ (free-is e ∙ n)
 
   pub texts-refused : (t : Bool) → t ≡ poolOk (textLimits d) (textCounts d) (textsPart d mem) → not t ≡ true → false ≡ textsHold (decode d mem)
-  texts-refused t e h = go (ℕ-discrete textSum (d .counts .textbytes))
+  texts-refused t e h = go (textsAdd d mem) refl
     where
-      no-pool : (eqb textSum (d .counts .textbytes) && all (freeOk (d .counts .texts) (textsPart d mem)) stack) ≡ false
+      no-pool : (textsAdd d mem && all (freeOk (d .counts .texts) (textsPart d mem)) stack) ≡ false
       no-pool = sym pool-is ∙ sym e ∙ refused t h
 
-      go : Dec (textSum ≡ d .counts .textbytes) → false ≡ textsHold (decode d mem)
-      go (yes s) = free-differs s (rw (eq-eqb textSum (d .counts .textbytes) s) at no-pool)
-      go (no s) = sum-differs s
+      go : (a : Bool) → textsAdd d mem ≡ a → false ≡ textsHold (decode d mem)
+      go true q = free-differs q (sym (ap (λ (a : Bool). a && all (freeOk (d .counts .texts) (textsPart d mem)) stack) q) ∙ no-pool)
+      go false q = ends-differ q
 
   pub names-refused : (t : Bool) → t ≡ tableOk (nameLimits d) (nameCounts d) (namesPart d mem) → not t ≡ true → false ≡ textsHold (decode d mem)
   unfolding textsHold
   names-refused t e h =
       first-false (lengthsAdd d mem) _ _ _ _
-      (lengths-are (eqb textSum (d .counts .textbytes)) false refl (sym table-is ∙ sym e ∙ refused t h) ∙ and-false (eqb textSum (d .counts .textbytes)))
+      (lengths-are (textsAdd d mem) false refl (sym table-is ∙ sym e ∙ refused t h) ∙ and-false (textsAdd d mem))
 
   module _ (t u : Bool) (et : t ≡ poolOk (textLimits d) (textCounts d) (textsPart d mem)) (ht : not t ≡ false) (eu : u ≡ tableOk (nameLimits d) (nameCounts d) (namesPart d mem)) (hu : not u ≡ false) where
-    pool-holds : (eqb textSum (d .counts .textbytes) && all (freeOk (d .counts .texts) (textsPart d mem)) stack) ≡ true
+    pool-holds : (textsAdd d mem && all (freeOk (d .counts .texts) (textsPart d mem)) stack) ≡ true
     pool-holds = sym pool-is ∙ sym et ∙ passed t ht
 
-    text-sum : eqb textSum (d .counts .textbytes) ≡ true
-    text-sum = and-left (eqb textSum (d .counts .textbytes)) (all (freeOk (d .counts .texts) (textsPart d mem)) stack) pool-holds
+    texts-add : textsAdd d mem ≡ true
+    texts-add = and-left (textsAdd d mem) (all (freeOk (d .counts .texts) (textsPart d mem)) stack) pool-holds
 
-    name-sum : eqb nameSum (d .counts .namebytes) ≡ true
-    name-sum = sym table-is ∙ sym eu ∙ passed u hu
+    names-add : namesAdd d mem ≡ true
+    names-add = sym table-is ∙ sym eu ∙ passed u hu
 
     pub texts-decided : (r : Bool)
         → r ≡ (allBelow (fieldsHold (d .counts .texts) (d .counts .names) (decodeNodes d mem)) (slotsMade d) && slotsOnce (d .counts .texts) (decodeNodes d mem) (slotsMade d) (part (d .limits .texts) (d .counts .freetexts) (textsPart d mem)))
@@ -339,10 +342,10 @@ module _ (d : Document) (mem : List ℕ) (ok : memoryOk d (length mem) ≡ true)
     texts-decided r q =
         q
         ∙ ap (λ (b : Bool). b && slotsOnce (d .counts .texts) (decodeNodes d mem) (slotsMade d) stack) fields-are
-        ∙ others-left (lengthsAdd d mem) _ _ _ _ _ _ _ (lengths-are true true text-sum name-sum) once-is inside-is
-        (free-is (eqb-true textSum (d .counts .textbytes) text-sum)
-        ∙ and-right (eqb textSum (d .counts .textbytes)) (all (freeOk (d .counts .texts) (textsPart d mem)) stack) pool-holds)
-        (names-is (eqb-true nameSum (d .counts .namebytes) name-sum))
+        ∙ others-left (lengthsAdd d mem) _ _ _ _ _ _ _ (lengths-are true true texts-add names-add) once-is inside-is
+        (free-is texts-add
+        ∙ and-right (textsAdd d mem) (all (freeOk (d .counts .texts) (textsPart d mem)) stack) pool-holds)
+        (names-is (eqb-true nameSum (d .counts .namebytes) names-add))
 
   -- ---- what counting the free list asks
 
@@ -358,7 +361,7 @@ module _ (d : Document) (mem : List ℕ) (ok : memoryOk d (length mem) ≡ true)
       → Markable (part (d .limits .texts) (d .counts .freetexts) (textsPart d mem)) m
   free-markable h marks m t p e z l b =
       markable (decodeNodes d mem) marks m t (d .counts .texts) (d .counts .names) (slotsMade d) p e z l (d .counts .texts) (textsPart d mem) stack
-      (and-right (eqb textSum (d .counts .textbytes)) (all (freeOk (d .counts .texts) (textsPart d mem)) stack) (sym pool-is ∙ h))
+      (and-right (textsAdd d mem) (all (freeOk (d .counts .texts) (textsPart d mem)) stack) (sym pool-is ∙ h))
       (omega (arith, fit .texts))
       (omega (
         arith,

@@ -17,6 +17,10 @@ listNumber children = 0
 listNumber attributes = 1
 listNumber namespaces = 2
 
+-- the list that a kind of this number stands in
+unfoldable pub kindList : ℕ → ℕ
+kindList kind = cond (eqb kind 2) 1 (cond (eqb kind 5) 2 0)
+
 module _ (D : Doc) (w : Which) where
   -- h may stand in list w of the node whose handle is owner (`entryHolds` of the model, by the owner's handle)
   unfoldable pub enters : ℕ → ℕ → Bool

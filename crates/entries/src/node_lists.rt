@@ -11,21 +11,22 @@ ghost use Rattle.blocks.specs.Arena.{listOf};
 ghost use Rattle.slots.specs.Handles.{handleIndex};
 ghost use Rattle.model.specs.Kinds.{sameWhich};
 ghost use Rattle.model.specs.Kinds as kinds;
-ghost use Rattle.model.specs.Doc.{anyOption, liveSlot, parentIn};
+ghost use Rattle.model.specs.Doc.{anyOption, liveSlot, kindIn, parentIn};
 ghost use Rattle.model.specs.RulesTest.{implies, allOption, allWhich, parentsHold, entriesHold, blocksHold};
 ghost use Rattle.memory.specs.Layout.{whichOf, limitsOf, memoryOk};
-ghost use Rattle.memory.specs.Decode.{kindOf, handleOf, blockOf, slotsMade, arenaIn};
-ghost use Rattle.entries.specs.Nodes.{decodeNodes};
+ghost use Rattle.memory.specs.Decode.{handleOf, blockOf, slotsMade, arenaIn};
+ghost use Rattle.entries.specs.Nodes.{decodeNodes, wordsHold};
 ghost use Rattle.entries.specs.Marks.{Pass, gathered};
-ghost use Rattle.entries.specs.Entering.{listNumber, enters, entriesEnter, slotsEntered, slotsListed, markedOnce};
+ghost use Rattle.entries.specs.Entering.{listNumber, kindList, enters, entriesEnter, slotsEntered, slotsListed, markedOnce};
+use crate::nodes::block_of;
 use crate::nodes::count;
-use crate::nodes::handle;
-use crate::nodes::live;
+use crate::nodes::handle_of;
+use crate::nodes::is_current;
+use crate::nodes::is_live;
+use crate::nodes::kind_of;
+use crate::nodes::parent_of;
 use memory::layout::Arena;
 use memory::layout::Document;
-use slots::Loaded;
-use slots::NodeData;
-use slots::NodeSlot;
 use slots::Parent;
 use slots::Range;
 
@@ -55,40 +56,43 @@ fn arena_number(arena: Arena) -> u64
     }
 }
 
-// The list of its parent that a node stands in.
-fn list_number(data: NodeData) -> u64
-    ensures { λ r. ⌜ r ≡ listNumber (kinds.whichOf (kindOf «data»)) ⌝ }
+// The list of its parent that a node of a kind stands in.
+fn list_number(kind: u64) -> u64
+    ensures { λ r. ⌜ r ≡ kindList kind ⌝ }
 {
-    match data {
-        NodeData::Root => 0,
-        NodeData::Element { .. } => 0,
-        NodeData::Attr { .. } => 1,
-        NodeData::Text(_) => 0,
-        NodeData::Comment(_) => 0,
-        NodeData::Namespace { .. } => 2,
-        NodeData::ProcessingInstruction { .. } => 0,
+    match kind {
+        2 => 1,
+        5 => 2,
+        _ => 0,
     }
 }
 
-fn stands_in(data: NodeData, arena: Arena) -> bool
-    ensures { λ r. ⌜ r ≡ sameWhich (kinds.whichOf (kindOf «data»)) (whichOf arena) ⌝ }
+fn has_parent(d: Document, mem: &[u64], s: usize, owner: u64) -> bool
+    requires { ⌜ (memoryOk d (length (now mem)) ≡ true) × (liveSlot (decodeNodes d (now mem)) s ≡ true) ⌝ }
+    ensures { λ r. ⌜ r ≡ anyOption (eqb owner) (parentIn (decodeNodes d (now (mem .entry))) s) ⌝ }
 {
-    list_number(data) == arena_number(arena)
+    let parent = parent_of(d, mem, s);
+    is_parent(parent, owner)
+}
+
+fn stands_in(d: Document, mem: &[u64], s: usize, arena: Arena) -> bool
+    requires { ⌜ (memoryOk d (length (now mem)) ≡ true) × (liveSlot (decodeNodes d (now mem)) s ≡ true) ⌝ }
+    ensures { λ r. ⌜ r ≡ sameWhich (kinds.whichOf (kindIn (decodeNodes d (now (mem .entry))) s)) (whichOf arena) ⌝ }
+{
+    let kind = kind_of(d, mem, s);
+    list_number(kind) == arena_number(arena)
 }
 
 // Whether the word entry may stand in a list of the node whose handle is owner: it resolves, to a node of the list's kind with that parent.
 fn entry_holds(d: Document, mem: &[u64], arena: Arena, owner: u64, entry: u64) -> bool
-    requires { ⌜ memoryOk d (length (now mem)) ≡ true ⌝ }
+    requires { ⌜ (memoryOk d (length (now mem)) ≡ true) × (wordsHold d (now mem) ≡ true) ⌝ }
     ensures { λ r. ⌜ r ≡ enters (decodeNodes d (now (mem .entry))) (whichOf arena) owner entry ⌝ }
 {
-    let node = memory::read::resolve(d, mem, slots::handle::id_of(entry));
-    match node {
-        Loaded::Found(found) => {
-            let parent = found.parent;
-            let data = found.data;
-            both(is_parent(parent, owner), stands_in(data, arena))
-        }
-        Loaded::NoNode => false,
+    if is_current(d, mem, entry) {
+        let s = (entry % 4294967296) as usize;
+        both(has_parent(d, mem, s, owner), stands_in(d, mem, s, arena))
+    } else {
+        false
     }
 }
 
@@ -101,7 +105,7 @@ fn count_entry(
     at: usize,
     marks: &mut [u64],
 ) -> bool
-    requires { ⌜ (memoryOk d (length (now mem)) ≡ true) × (slotsMade d ≤ length (now marks)) × (at < limitsOf (d .limits) .entries (whichOf arena)) ⌝ }
+    requires { ⌜ (memoryOk d (length (now mem)) ≡ true) × (slotsMade d ≤ length (now marks)) × (at < limitsOf (d .limits) .entries (whichOf arena)) × (wordsHold d (now mem) ≡ true) ⌝ }
     ensures { λ r. ⌜ Pass (slotsMade d) (enters (decodeNodes d (now (mem .entry))) (whichOf arena) owner (getD (arenaIn d (whichOf arena) (now (mem .entry)) .ids) at 0)) (handleIndex (getD (arenaIn d (whichOf arena) (now (mem .entry)) .ids) at 0) ∷ []) (now (marks .entry)) (now (marks .exit)) r ⌝ }
 {
     let entry = memory::read::entry(d, mem, arena, at);
@@ -121,7 +125,7 @@ fn count_block(
     block: Range,
     marks: &mut [u64],
 ) -> bool
-    requires { ⌜ (memoryOk d (length (now mem)) ≡ true) × (slotsMade d ≤ length (now marks)) × (block .start + block .len ≤ limitsOf (d .limits) .entries (whichOf arena)) ⌝ }
+    requires { ⌜ (memoryOk d (length (now mem)) ≡ true) × (slotsMade d ≤ length (now marks)) × (block .start + block .len ≤ limitsOf (d .limits) .entries (whichOf arena)) × (wordsHold d (now mem) ≡ true) ⌝ }
     ensures { λ r. ⌜ Pass (slotsMade d) (all (enters (decodeNodes d (now (mem .entry))) (whichOf arena) owner) (listOf (arenaIn d (whichOf arena) (now (mem .entry))) (blockOf block))) (map handleIndex (listOf (arenaIn d (whichOf arena) (now (mem .entry))) (blockOf block))) (now (marks .entry)) (now (marks .exit)) r ⌝ }
 {
     let start = block.start;
@@ -137,30 +141,28 @@ fn count_block(
 }
 
 // The list of a slot in an arena, where the slot is live.
-fn count_list(d: Document, mem: &[u64], arena: Arena, slot: NodeSlot, marks: &mut [u64]) -> bool
-    requires { ⌜ (memoryOk d (length (now mem)) ≡ true) × (slotsMade d ≤ length (now marks)) × (slot .0 < slotsMade d) × (blocksHold (decodeNodes d (now mem)) ≡ true) ⌝ }
-    ensures { λ r. ⌜ Pass (slotsMade d) (entriesEnter (decodeNodes d (now (mem .entry))) (whichOf arena) (slot .0)) (slotsEntered (decodeNodes d (now (mem .entry))) (whichOf arena) (slot .0)) (now (marks .entry)) (now (marks .exit)) r ⌝ }
+fn count_list(d: Document, mem: &[u64], arena: Arena, s: usize, marks: &mut [u64]) -> bool
+    requires { ⌜ (memoryOk d (length (now mem)) ≡ true) × (slotsMade d ≤ length (now marks)) × (s < slotsMade d) × (blocksHold (decodeNodes d (now mem)) ≡ true) × (wordsHold d (now mem) ≡ true) ⌝ }
+    ensures { λ r. ⌜ Pass (slotsMade d) (entriesEnter (decodeNodes d (now (mem .entry))) (whichOf arena) s) (slotsEntered (decodeNodes d (now (mem .entry))) (whichOf arena) s) (now (marks .entry)) (now (marks .exit)) r ⌝ }
 {
-    let node = live(d, mem, slot);
-    match node {
-        Loaded::Found(found) => {
-            let owner = handle(d, mem, slot);
-            let block = memory::read::range_of(found, arena);
-            count_block(d, mem, arena, owner, block, marks)
-        }
-        Loaded::NoNode => true,
+    if is_live(d, mem, s) {
+        let owner = handle_of(d, mem, s);
+        let block = block_of(d, mem, arena, s);
+        count_block(d, mem, arena, owner, block, marks)
+    } else {
+        true
     }
 }
 
 // The lists of all slots in an arena.
 fn count_arena(d: Document, mem: &[u64], arena: Arena, marks: &mut [u64]) -> bool
-    requires { ⌜ (memoryOk d (length (now mem)) ≡ true) × (slotsMade d ≤ length (now marks)) × (blocksHold (decodeNodes d (now mem)) ≡ true) ⌝ }
+    requires { ⌜ (memoryOk d (length (now mem)) ≡ true) × (slotsMade d ≤ length (now marks)) × (blocksHold (decodeNodes d (now mem)) ≡ true) × (wordsHold d (now mem) ≡ true) ⌝ }
     ensures { λ r. ⌜ Pass (slotsMade d) (allBelow (entriesEnter (decodeNodes d (now (mem .entry))) (whichOf arena)) (slotsMade d)) (gathered (slotsEntered (decodeNodes d (now (mem .entry))) (whichOf arena)) (slotsMade d)) (now (marks .entry)) (now (marks .exit)) r ⌝ }
 {
     let n = memory::read::made(d);
     let mut i = 0;
     while i < n {
-        if !count_list(d, mem, arena, NodeSlot(i as u32), marks) {
+        if !count_list(d, mem, arena, i, marks) {
             return false;
         }
         i += 1;
@@ -170,7 +172,7 @@ fn count_arena(d: Document, mem: &[u64], arena: Arena, marks: &mut [u64]) -> boo
 
 // The lists of all slots in the three arenas.
 fn count_lists(d: Document, mem: &[u64], marks: &mut [u64]) -> bool
-    requires { ⌜ (memoryOk d (length (now mem)) ≡ true) × (slotsMade d ≤ length (now marks)) × (blocksHold (decodeNodes d (now mem)) ≡ true) ⌝ }
+    requires { ⌜ (memoryOk d (length (now mem)) ≡ true) × (slotsMade d ≤ length (now marks)) × (blocksHold (decodeNodes d (now mem)) ≡ true) × (wordsHold d (now mem) ≡ true) ⌝ }
     ensures { λ r. ⌜ Pass (slotsMade d) (allWhich (λ w. allBelow (entriesEnter (decodeNodes d (now (mem .entry))) w) (slotsMade d))) (slotsListed (decodeNodes d (now (mem .entry))) (slotsMade d)) (now (marks .entry)) (now (marks .exit)) r ⌝ }
 {
     if !count_arena(d, mem, Arena::Children, marks) {
@@ -192,29 +194,27 @@ fn is_marked(parent: Parent, mark: u64) -> bool
     }
 }
 
-fn entered_once(d: Document, mem: &[u64], slot: NodeSlot, mark: u64) -> bool
-    requires { ⌜ (memoryOk d (length (now mem)) ≡ true) × (slot .0 < slotsMade d) ⌝ }
-    ensures { λ r. ⌜ r ≡ implies (liveSlot (decodeNodes d (now (mem .entry))) (slot .0)) (allOption (λ _. eqb mark 1) (parentIn (decodeNodes d (now (mem .entry))) (slot .0))) ⌝ }
+fn entered_once(d: Document, mem: &[u64], s: usize, mark: u64) -> bool
+    requires { ⌜ (memoryOk d (length (now mem)) ≡ true) × (s < slotsMade d) × (wordsHold d (now mem) ≡ true) ⌝ }
+    ensures { λ r. ⌜ r ≡ implies (liveSlot (decodeNodes d (now (mem .entry))) s) (allOption (λ _. eqb mark 1) (parentIn (decodeNodes d (now (mem .entry))) s)) ⌝ }
 {
-    let node = live(d, mem, slot);
-    match node {
-        Loaded::Found(found) => {
-            let parent = found.parent;
-            is_marked(parent, mark)
-        }
-        Loaded::NoNode => true,
+    if is_live(d, mem, s) {
+        let parent = parent_of(d, mem, s);
+        is_marked(parent, mark)
+    } else {
+        true
     }
 }
 
 // Whether each live node with a parent was counted once.
 fn all_entered(d: Document, mem: &[u64], marks: &[u64]) -> bool
-    requires { ⌜ (memoryOk d (length (now mem)) ≡ true) × (slotsMade d ≤ length (now marks)) ⌝ }
+    requires { ⌜ (memoryOk d (length (now mem)) ≡ true) × (slotsMade d ≤ length (now marks)) × (wordsHold d (now mem) ≡ true) ⌝ }
     ensures { λ r. ⌜ r ≡ allBelow (markedOnce (decodeNodes d (now (mem .entry))) (now (marks .entry))) (slotsMade d) ⌝ }
 {
     let n = memory::read::made(d);
     let mut i = 0;
     while i < n {
-        if !entered_once(d, mem, NodeSlot(i as u32), marks[i]) {
+        if !entered_once(d, mem, i, marks[i]) {
             return false;
         }
         i += 1;
@@ -222,9 +222,9 @@ fn all_entered(d: Document, mem: &[u64], marks: &[u64]) -> bool
     true
 }
 
-// Whether rule 4 holds, where rules 3 and 5 do. The marks, a word for each slot made, are all zero before, and anything after.
+// Whether rule 4 holds, where rules 3 and 5 do, and rule 1 of the words. The marks, a word for each slot made, are all zero before, and anything after.
 pub fn check_entries(d: Document, mem: &[u64], marks: &mut [u64]) -> bool
-    requires { ⌜ (memoryOk d (length (now mem)) ≡ true) × (parentsHold (decodeNodes d (now mem)) ≡ true) × (blocksHold (decodeNodes d (now mem)) ≡ true) ⌝ }
+    requires { ⌜ (memoryOk d (length (now mem)) ≡ true) × (parentsHold (decodeNodes d (now mem)) ≡ true) × (blocksHold (decodeNodes d (now mem)) ≡ true) × (wordsHold d (now mem) ≡ true) ⌝ }
     requires { ⌜ (slotsMade d ≤ length (now marks)) × (now marks ≡ replicate (length (now marks)) 0) ⌝ }
     ensures { λ r. ⌜ r ≡ entriesHold (decodeNodes d (now (mem .entry))) ⌝ }
 {

@@ -9,44 +9,41 @@ ghost use Rattle.words.specs.Parts.{part};
 ghost use Rattle.words.specs.Lists.{allBelow};
 ghost use Rattle.texts.specs.Words.{poolOk, Markable, marked};
 ghost use Rattle.names.specs.Words.{tableOk};
+ghost use Rattle.model.specs.Doc.{liveSlot, kindIn};
 ghost use Rattle.model.specs.Rules.{heldIn, slotsHeld};
 ghost use Rattle.model.specs.RulesTest.{textsHold};
 ghost use Rattle.memory.specs.Layout.{limitsOf, memoryOk};
-ghost use Rattle.memory.specs.Decode.{kindOf, slotOf, slotsMade, countsWithin, textLimits, textCounts, nameLimits, nameCounts, textsPart, namesPart, decode};
-ghost use Rattle.entries.specs.Nodes.{decodeNodes};
+ghost use Rattle.memory.specs.Decode.{slotOf, slotsMade, countsWithin, textLimits, textCounts, nameLimits, nameCounts, textsPart, namesPart, decode};
+ghost use Rattle.entries.specs.Nodes.{decodeNodes, wordsHold};
 ghost use Rattle.entries.specs.Marks.{Pass, gathered};
 ghost use Rattle.entries.specs.Fields.{slotsInside, namesInside, fieldsHold, markedOne, slotsOnce};
 use crate::nodes::count;
-use crate::nodes::live;
+use crate::nodes::first_text;
+use crate::nodes::is_live;
+use crate::nodes::kind_of;
+use crate::nodes::name_of;
+use crate::nodes::second_text;
 use memory::layout::Document;
 use names::NameCounts;
 use names::NameLimits;
 use slots::Chars;
-use slots::Loaded;
-use slots::NodeData;
-use slots::NodeSlot;
 use texts::TextCounts;
 use texts::TextLimits;
 
 // Whether the name number of an element or an attribute is below the name count.
-fn names_inside(data: NodeData, names: usize) -> bool
-    ensures { λ r. ⌜ r ≡ namesInside names (kindOf «data») ⌝ }
+fn names_inside(d: Document, mem: &[u64], s: usize) -> bool
+    requires { ⌜ (memoryOk d (length (now mem)) ≡ true) × (liveSlot (decodeNodes d (now mem)) s ≡ true) ⌝ }
+    ensures { λ r. ⌜ r ≡ namesInside (d .counts .names) (kindIn (decodeNodes d (now (mem .entry))) s) ⌝ }
 {
-    match data {
-        NodeData::Root => true,
-        NodeData::Element { name, .. } => {
-            let number = name.0;
-            (number as usize) < names
-        }
-        NodeData::Attr { name, .. } => {
-            let number = name.0;
-            (number as usize) < names
-        }
-        NodeData::Text(_) => true,
-        NodeData::Comment(_) => true,
-        NodeData::Namespace { .. } => true,
-        NodeData::ProcessingInstruction { .. } => true,
+    let kind = kind_of(d, mem, s);
+    if kind == 0 {
+        return true;
     }
+    if 2 < kind {
+        return true;
+    }
+    let c = d.counts;
+    name_of(d, mem, s) < c.names as u64
 }
 
 // A text field is tested and counted.
@@ -79,35 +76,31 @@ fn count_texts(first: Chars, second: Chars, texts: usize, marks: &mut [u64]) -> 
 }
 
 // The fields of a slot, where it is live.
-fn count_node(d: Document, mem: &[u64], slot: NodeSlot, marks: &mut [u64]) -> bool
-    requires { ⌜ (memoryOk d (length (now mem)) ≡ true) × (slot .0 < slotsMade d) × (d .counts .texts ≤ length (now marks)) ⌝ }
-    ensures { λ r. ⌜ Pass (length (now (marks .entry))) (fieldsHold (d .counts .texts) (d .counts .names) (decodeNodes d (now (mem .entry))) (slot .0)) (heldIn (decodeNodes d (now (mem .entry))) (slot .0)) (now (marks .entry)) (now (marks .exit)) r ⌝ }
+fn count_node(d: Document, mem: &[u64], s: usize, marks: &mut [u64]) -> bool
+    requires { ⌜ (memoryOk d (length (now mem)) ≡ true) × (s < slotsMade d) × (d .counts .texts ≤ length (now marks)) × (wordsHold d (now mem) ≡ true) ⌝ }
+    ensures { λ r. ⌜ Pass (length (now (marks .entry))) (fieldsHold (d .counts .texts) (d .counts .names) (decodeNodes d (now (mem .entry))) s) (heldIn (decodeNodes d (now (mem .entry))) s) (now (marks .entry)) (now (marks .exit)) r ⌝ }
 {
-    let c = d.counts;
-    let node = live(d, mem, slot);
-    match node {
-        Loaded::Found(found) => {
-            let data = found.data;
-            if !names_inside(data, c.names) {
-                return false;
-            }
-            let first = slots::encode::first_text(data);
-            let second = slots::encode::second_text(data);
-            count_texts(first, second, c.texts, marks)
-        }
-        Loaded::NoNode => true,
+    if !is_live(d, mem, s) {
+        return true;
     }
+    if !names_inside(d, mem, s) {
+        return false;
+    }
+    let c = d.counts;
+    let first = first_text(d, mem, s);
+    let second = second_text(d, mem, s);
+    count_texts(first, second, c.texts, marks)
 }
 
 // The fields of all slots.
 fn count_fields(d: Document, mem: &[u64], marks: &mut [u64]) -> bool
-    requires { ⌜ (memoryOk d (length (now mem)) ≡ true) × (d .counts .texts ≤ length (now marks)) ⌝ }
+    requires { ⌜ (memoryOk d (length (now mem)) ≡ true) × (d .counts .texts ≤ length (now marks)) × (wordsHold d (now mem) ≡ true) ⌝ }
     ensures { λ r. ⌜ Pass (length (now (marks .entry))) (allBelow (fieldsHold (d .counts .texts) (d .counts .names) (decodeNodes d (now (mem .entry)))) (slotsMade d)) (gathered (heldIn (decodeNodes d (now (mem .entry)))) (slotsMade d)) (now (marks .entry)) (now (marks .exit)) r ⌝ }
 {
     let n = memory::read::made(d);
     let mut i = 0;
     while i < n {
-        if !count_node(d, mem, NodeSlot(i as u32), marks) {
+        if !count_node(d, mem, i, marks) {
             return false;
         }
         i += 1;
@@ -194,7 +187,7 @@ fn all_once(marks: &[u64], texts: usize) -> bool
 
 // The fields and the free list together, where the pool holds.
 fn check_slots(d: Document, mem: &[u64], marks: &mut [u64]) -> bool
-    requires { ⌜ (memoryOk d (length (now mem)) ≡ true) × (countsWithin (limitsOf (d .limits)) (d .counts) ≡ true) × (poolOk (textLimits d) (textCounts d) (textsPart d (now mem)) ≡ true) ⌝ }
+    requires { ⌜ (memoryOk d (length (now mem)) ≡ true) × (countsWithin (limitsOf (d .limits)) (d .counts) ≡ true) × (poolOk (textLimits d) (textCounts d) (textsPart d (now mem)) ≡ true) × (wordsHold d (now mem) ≡ true) ⌝ }
     requires { ⌜ (d .limits .texts ≤ length (now marks)) × (now marks ≡ replicate (length (now marks)) 0) ⌝ }
     ensures { λ r. ⌜ r ≡ (allBelow (fieldsHold (d .counts .texts) (d .counts .names) (decodeNodes d (now (mem .entry)))) (slotsMade d) && slotsOnce (d .counts .texts) (decodeNodes d (now (mem .entry))) (slotsMade d) (part (d .limits .texts) (d .counts .freetexts) (textsPart d (now (mem .entry))))) ⌝ }
 {
@@ -206,10 +199,10 @@ fn check_slots(d: Document, mem: &[u64], marks: &mut [u64]) -> bool
     all_once(marks, c.texts)
 }
 
-// Whether rule 8 holds, where the counts are within the limits (rule 1). The marks, a word for each text slot that the limit allows, are all zero before, and
+// Whether rule 8 holds, where the counts are within the limits and the words within their fields (rule 1). The marks, a word for each text slot that the limit allows, are all zero before, and
 // anything after.
 pub fn check_texts(d: Document, mem: &[u64], marks: &mut [u64]) -> bool
-    requires { ⌜ (memoryOk d (length (now mem)) ≡ true) × (countsWithin (limitsOf (d .limits)) (d .counts) ≡ true) ⌝ }
+    requires { ⌜ (memoryOk d (length (now mem)) ≡ true) × (countsWithin (limitsOf (d .limits)) (d .counts) ≡ true) × (wordsHold d (now mem) ≡ true) ⌝ }
     requires { ⌜ (d .limits .texts ≤ length (now marks)) × (now marks ≡ replicate (length (now marks)) 0) ⌝ }
     ensures { λ r. ⌜ r ≡ textsHold (decode d (now (mem .entry))) ⌝ }
 {

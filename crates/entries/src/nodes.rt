@@ -1,39 +1,128 @@
-// The live nodes of the lent buffer, and the marks that count.
+// What the checks read of a slot: single words, where rule 1 holds of them; and the marks that count.
 ghost use mathlib.Core.Path.{_≡_};
 ghost use mathlib.Core.Bool.{true};
 ghost use Prim.Native.Nat.{_<_};
 ghost use lib.ListN.{length, getD, set};
-ghost use Rattle.slots.specs.Regions.{generationAt};
-ghost use Rattle.model.specs.Doc.{handleWord};
-ghost use Rattle.memory.specs.Layout.{memoryOk};
-ghost use Rattle.memory.specs.Decode.{slotsPart};
-ghost use Rattle.entries.specs.Nodes.{liveAt};
+ghost use Rattle.model.specs.Doc.{handleAt, liveSlot, resolves, kindIn, parentIn, rangeIn};
+ghost use Rattle.memory.specs.Layout.{memoryOk, whichOf};
+ghost use Rattle.memory.specs.Decode.{blockOf, handleOf, slotOf, slotsMade};
+ghost use Rattle.entries.specs.Nodes.{decodeNodes, wordsHold, recordWord, blockAt, kindNumber, nameNumber, firstSlot, secondSlot};
 ghost use Rattle.entries.specs.Marks.{raised};
+use memory::layout::Arena;
 use memory::layout::Document;
-use slots::Loaded;
+use memory::read::made;
+use slots::Chars;
 use slots::NodeId;
-use slots::NodeSlot;
+use slots::Parent;
+use slots::Range;
 
-// The node of a slot, where it is live.
-pub fn live(d: Document, mem: &[u64], slot: NodeSlot) -> Loaded
-    requires { ⌜ (memoryOk d (length (now mem)) ≡ true) × (slot .0 < d .limits .nodes) ⌝ }
-    ensures { λ r. ⌜ r ≡ liveAt d (now (mem .entry)) (slot .0) ⌝ }
+// Whether a slot is live, where rule 1 holds of the slots' words.
+pub fn is_live(d: Document, mem: &[u64], s: usize) -> bool
+    requires { ⌜ (memoryOk d (length (now mem)) ≡ true) × (s < slotsMade d) × (wordsHold d (now mem) ≡ true) ⌝ }
+    ensures { λ r. ⌜ r ≡ liveSlot (decodeNodes d (now (mem .entry))) s ⌝ }
 {
-    if memory::read::generation(d, mem, slot) % 2 == 0 {
-        memory::read::load(d, mem, slot)
+    mem[s] % 2 == 0
+}
+
+// Whether a handle resolves, where rule 1 holds of the slots' words.
+pub fn is_current(d: Document, mem: &[u64], handle: u64) -> bool
+    requires { ⌜ (memoryOk d (length (now mem)) ≡ true) × (wordsHold d (now mem) ≡ true) ⌝ }
+    ensures { λ r. ⌜ r ≡ resolves (decodeNodes d (now (mem .entry))) handle ⌝ }
+{
+    let s = (handle % 4294967296) as usize;
+    if s >= made(d) {
+        return false;
+    }
+    if is_live(d, mem, s) {
+        mem[s] == handle / 4294967296
     } else {
-        Loaded::NoNode
+        false
     }
 }
 
-// The word of the handle of a slot whose generation is of 32 bits.
-pub fn handle(d: Document, mem: &[u64], slot: NodeSlot) -> u64
-    requires { ⌜ (memoryOk d (length (now mem)) ≡ true) × (slot .0 < d .limits .nodes) × (generationAt (d .limits .nodes) (slotsPart d (now mem)) (slot .0) < 4294967296) ⌝ }
-    ensures { λ r. ⌜ r ≡ handleWord (slot .0) (generationAt (d .limits .nodes) (slotsPart d (now (mem .entry))) (slot .0)) ⌝ }
+// A word of a slot's record.
+fn record_word(d: Document, mem: &[u64], s: usize, word: usize) -> u64
+    requires { ⌜ (memoryOk d (length (now mem)) ≡ true) × (s < d .limits .nodes) × (word < 12) ⌝ }
+    ensures { λ r. ⌜ r ≡ recordWord d (now (mem .entry)) s word ⌝ }
 {
-    let generation = memory::read::generation(d, mem, slot);
+    let l = d.limits;
+    let n = l.nodes;
+    mem[n * 2 + s * 12 + word]
+}
+
+// The number of a live slot's kind.
+pub fn kind_of(d: Document, mem: &[u64], s: usize) -> u64
+    requires { ⌜ (memoryOk d (length (now mem)) ≡ true) × (liveSlot (decodeNodes d (now mem)) s ≡ true) ⌝ }
+    ensures { λ r. ⌜ r ≡ kindNumber (kindIn (decodeNodes d (now (mem .entry))) s) ⌝ }
+{
+    record_word(d, mem, s, 0)
+}
+
+// The number of its name, 0 where its kind has none.
+pub fn name_of(d: Document, mem: &[u64], s: usize) -> u64
+    requires { ⌜ (memoryOk d (length (now mem)) ≡ true) × (liveSlot (decodeNodes d (now mem)) s ≡ true) ⌝ }
+    ensures { λ r. ⌜ r ≡ nameNumber (kindIn (decodeNodes d (now (mem .entry))) s) ⌝ }
+{
+    record_word(d, mem, s, 1)
+}
+
+// Its texts, empty where its kind has none.
+pub fn first_text(d: Document, mem: &[u64], s: usize) -> Chars
+    requires { ⌜ (memoryOk d (length (now mem)) ≡ true) × (liveSlot (decodeNodes d (now mem)) s ≡ true) ⌝ }
+    ensures { λ r. ⌜ slotOf r ≡ firstSlot (kindIn (decodeNodes d (now (mem .entry))) s) ⌝ }
+{
+    slots::decode::chars_of(record_word(d, mem, s, 2))
+}
+
+pub fn second_text(d: Document, mem: &[u64], s: usize) -> Chars
+    requires { ⌜ (memoryOk d (length (now mem)) ≡ true) × (liveSlot (decodeNodes d (now mem)) s ≡ true) ⌝ }
+    ensures { λ r. ⌜ slotOf r ≡ secondSlot (kindIn (decodeNodes d (now (mem .entry))) s) ⌝ }
+{
+    slots::decode::chars_of(record_word(d, mem, s, 3))
+}
+
+pub fn parent_of(d: Document, mem: &[u64], s: usize) -> Parent
+    requires { ⌜ (memoryOk d (length (now mem)) ≡ true) × (liveSlot (decodeNodes d (now mem)) s ≡ true) ⌝ }
+    ensures { λ r. ⌜ handleOf r ≡ parentIn (decodeNodes d (now (mem .entry))) s ⌝ }
+{
+    let word = record_word(d, mem, s, 4);
+    let generation = record_word(d, mem, s, 5);
+    slots::decode::parent_of(word, generation)
+}
+
+// Where the block in an arena stands in a record.
+fn block_at(arena: Arena) -> usize
+    ensures { λ r. ⌜ r ≡ blockAt (whichOf arena) ⌝ }
+{
+    match arena {
+        Arena::Children => 6,
+        Arena::Attributes => 8,
+        Arena::Namespaces => 10,
+    }
+}
+
+// The block of a live slot in an arena, none where its kind has no such list.
+pub fn block_of(d: Document, mem: &[u64], arena: Arena, s: usize) -> Range
+    requires { ⌜ (memoryOk d (length (now mem)) ≡ true) × (liveSlot (decodeNodes d (now mem)) s ≡ true) ⌝ }
+    ensures { λ r. ⌜ blockOf r ≡ rangeIn (decodeNodes d (now (mem .entry))) (whichOf arena) s ⌝ }
+{
+    let at = block_at(arena);
+    let start = record_word(d, mem, s, at);
+    let len = record_word(d, mem, s, at + 1);
+    Range {
+        start: start as u32,
+        len: len as u32,
+    }
+}
+
+// The word of a slot's handle, where rule 1 holds of the slots' words.
+pub fn handle_of(d: Document, mem: &[u64], s: usize) -> u64
+    requires { ⌜ (memoryOk d (length (now mem)) ≡ true) × (s < slotsMade d) × (wordsHold d (now mem) ≡ true) ⌝ }
+    ensures { λ r. ⌜ r ≡ handleAt (decodeNodes d (now (mem .entry))) s ⌝ }
+{
+    let generation = mem[s];
     slots::handle::word_of(NodeId {
-        index: slot.0,
+        index: s as u32,
         generation: generation as u32,
     })
 }

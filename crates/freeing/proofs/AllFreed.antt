@@ -13,12 +13,12 @@ use Rattle.words.proofs.Joined.{joined-append}
 use Rattle.slots.specs.Handles.{handleIndex}
 use Rattle.model.specs.Kinds.{textsOf}
 use Rattle.model.specs.Doc.{Doc, kindAt}
-use Rattle.model.specs.Edits.{up, raisedAll, freedAll, releasedAll, freeAll}
+use Rattle.model.specs.Edits.{up, raisedAll, freedAll, freeAll}
 use Rattle.model.proofs.Freeing.{length-raisedAll, raisedAll-fits}
 use Rattle.edits.specs.Pooled.{setPool}
-use Rattle.freeing.specs.Freed.{freeSlot, freeNode}
+use Rattle.freeing.specs.Freed.{pushedAll, freeSlot, freeNode, freeAllSlots}
 use Rattle.freeing.specs.Asked.{Releasable, NodeFreeable}
-use Rattle.freeing.proofs.Released.{releasedAll-append, releasable-next}
+use Rattle.freeing.proofs.Pushed.{pushedAll-append, releasable-next}
 
 raisedAll-append : (a b gens : List ℕ) → raisedAll gens (a ++ b) ≡ raisedAll (raisedAll gens a) b
 raisedAll-append [] b gens = refl
@@ -45,8 +45,8 @@ module _ (D : Doc) where
     pub texts : Releasable D (textsOfAll l)
 
   -- none freed, and one more
-  pub freeAll-none : D .current ≡ false → D ≡ freeAll D []
-  unfolding freeAll
+  pub freeAll-none : D .current ≡ false → D ≡ freeAllSlots D []
+  unfolding freeAll setPool
   freeAll-none e = λ i. record {
     limits = D .limits;
     gens = D .gens;
@@ -63,7 +63,7 @@ module _ (D : Doc) where
     lengthsFit = D .lengthsFit;
   }
 
-  pub freeAll-next : (l : List ℕ) (h : ℕ) → freeNode (freeAll D l) (handleIndex h) ≡ freeAll D (l ++ (h ∷ []))
+  pub freeAll-next : (l : List ℕ) (h : ℕ) → freeNode (freeAllSlots D l) (handleIndex h) ≡ freeAllSlots D (l ++ (h ∷ []))
   unfolding freeAll freeSlot setPool
   freeAll-next l h =
       let texts : textsOfAll (l ++ (h ∷ [])) ≡ textsOfAll l ++ textsOf (kindAt D h) =
@@ -78,7 +78,7 @@ module _ (D : Doc) where
         arenas = D .arenas;
         order = D .order;
         current = false;
-        pool = sym (ap (releasedAll (D .pool)) texts ∙ releasedAll-append (textsOfAll l) (textsOf (kindAt D h)) (D .pool)) i;
+        pool = sym (ap (pushedAll (D .pool)) texts ∙ pushedAll-append (textsOfAll l) (textsOf (kindAt D h)) (D .pool)) i;
         names = D .names;
         countsFit = D .countsFit;
         lengthsFit = D .lengthsFit;
@@ -86,9 +86,9 @@ module _ (D : Doc) where
 
   -- the next of them
   module _ (l : List ℕ) (h : ℕ) (f : AllFreeable (l ++ (h ∷ []))) where
-    texts-next : Releasable (setPool D (releasedAll (D .pool) (textsOfAll l))) (textsOf (kindAt D h))
+    texts-next : Releasable (setPool D (pushedAll (D .pool) (textsOfAll l))) (textsOf (kindAt D h))
     texts-next =
-        subst (Releasable (setPool D (releasedAll (D .pool) (textsOfAll l)))) (append-nil (textsOf (kindAt D h)))
+        subst (Releasable (setPool D (pushedAll (D .pool) (textsOfAll l)))) (append-nil (textsOf (kindAt D h)))
         (releasable-next D (textsOfAll l) (textsOfAll (h ∷ [])) (subst (Releasable D) (joined-append (λ x. textsOf (kindAt D x)) l (h ∷ [])) (f .texts)))
 
     generation-fits : (i : ℕ) → Dec (i < length (D .gens)) → getD (D .gens) i 0 < 4294967296
@@ -97,7 +97,7 @@ module _ (D : Doc) where
         let e : getD (D .gens) i 0 ≡ 0 = List·getD-eq-default (D .gens) 0 {n = i} (omega arith) in
         omega arith
 
-    pub next-freeable : NodeFreeable (freeAll D l) (handleIndex h)
+    pub next-freeable : NodeFreeable (freeAllSlots D l) (handleIndex h)
     unfolding freeAll setPool
     next-freeable =
         let t = texts-next in
@@ -108,5 +108,5 @@ module _ (D : Doc) where
             generation = raisedAll-fits l (D .gens) (λ i. generation-fits i (decLt i (length (D .gens)))) (handleIndex h);
             room = omega (arith, f .room, length-append l (h ∷ []), length-freedAll l (D .free));
           };
-          texts = record { counts = t .counts; lengths = t .lengths; made = t .made; room = t .room };
+          texts = record { counts = t .counts; lengths = t .lengths; room = t .room };
         }

@@ -20,7 +20,7 @@ use Rattle.slots.specs.declared.Loaded.{Loaded}
 use Rattle.slots.proofs.Regions.{length-putGeneration, length-putFree, generationAt-putGeneration, generationAt-putGeneration-other, freeAt-putGeneration, recordAt-putGeneration, orderAt-putGeneration, freeAt-putFree, freeAt-putFree-other, generationAt-putFree, recordAt-putFree, orderAt-putFree, nodeAt-recordAt}
 use Rattle.model.specs.Kinds.{Which, children, attributes, namespaces, textsOf}
 use Rattle.model.specs.Doc.{Doc, kindIn}
-use Rattle.model.specs.Edits.{up, releasedAll}
+use Rattle.model.specs.Edits.{up}
 use Rattle.memory.specs.declared.layout.Document.{Document}
 use Rattle.memory.specs.Layout.{limitsOf, entriesOf, memoryOk}
 use Rattle.memory.specs.Decode.{kindLoaded, parentLoaded, rangeLoaded, loadedAt, usedOf, countsWithin, slotsPart, arenaPart, slotsMade, slotsFree, poolIn, namesIn, lengthsAdd, decodeWith, decode}
@@ -37,7 +37,7 @@ use Rattle.edits.specs.Slot.{slotCounts, withSlots}
 use Rattle.edits.proofs.Composed.{step-next}
 use Rattle.memory.proofs.Past.{slots-past}
 use Rattle.edits.proofs.Taking.{reverse-next}
-use Rattle.freeing.specs.Freed.{freeSlot, freeNode}
+use Rattle.freeing.specs.Freed.{pushedAll, freeSlot, freeNode}
 use Rattle.freeing.specs.Asked.{SlotFreeable, NodeFreeable}
 
 -- ---- the words
@@ -203,16 +203,16 @@ module _ (d : Document) (mem : List ℕ) (ok : memoryOk d (length mem) ≡ true)
       subst (λ (x : Document). Step d mem x (ys ++ drop (15 * N - 0) (drop 0 mem)) (freeSlot (decode d mem) s)) (sym (er ∙ ap (withSlots d (d .counts .slots)) ef))
       (subst (λ (x : List ℕ). Step d mem after x (freeSlot (decode d mem) s)) (sym words) stepped)
 
--- ---- a node: its texts, then its slot
+-- ---- a node: its text slots, then its slot
 
 module _ (d : Document) (mem : List ℕ) (s : ℕ) (f : NodeFreeable (decode d mem) s) (e : Document) (mem₁ : List ℕ)
-    (t : Step d mem e mem₁ (setPool (decode d mem) (releasedAll (decode d mem .pool) (textsOf (kindIn (decode d mem) s))))) where
-  pub emptied-freeable : SlotFreeable (decode e mem₁) s
+    (t : Step d mem e mem₁ (setPool (decode d mem) (pushedAll (decode d mem .pool) (textsOf (kindIn (decode d mem) s))))) where
+  pub pushed-freeable : SlotFreeable (decode e mem₁) s
   unfolding setPool
-  emptied-freeable =
+  pushed-freeable =
       subst (λ (x : Doc). SlotFreeable x s) (sym (t .document))
       (record { counts = f .slot .counts; made = f .slot .made; generation = f .slot .generation; room = f .slot .room })
 
   pub node-freed : (r : Document) (mem₂ : List ℕ) → Step e mem₁ r mem₂ (freeSlot (decode e mem₁) s) → Step d mem r mem₂ (freeNode (decode d mem) s)
   node-freed r mem₂ u =
-      step-next d mem e mem₁ (setPool (decode d mem) (releasedAll (decode d mem .pool) (textsOf (kindIn (decode d mem) s)))) t (λ (x : Doc). freeSlot x s) r mem₂ u
+      step-next d mem e mem₁ (setPool (decode d mem) (pushedAll (decode d mem .pool) (textsOf (kindIn (decode d mem) s)))) t (λ (x : Doc). freeSlot x s) r mem₂ u

@@ -1,4 +1,5 @@
-pub mod Released
+pub mod Lent
+pub mod Pushed
 pub mod Freed
 pub mod Visited
 pub mod AllFreed

@@ -24,7 +24,14 @@ use Rattle.model.proofs.Membership.{mem-without-old, distinct-without}
 use Rattle.model.proofs.Freeing.{slotsHeld-append}
 use Rattle.walks.proofs.Distinct.{distinct-append, distinct-map, mem-map-cases, count-distinct, pigeonhole}
 use Rattle.walks.proofs.Walkable.{live-of, same-index}
-use Rattle.freeing.specs.Asked.{Freeable}
+use Rattle.texts.specs.Pool.{Pool, reclaimed}
+use Rattle.texts.specs.Rule.{FreeTexts}
+use Rattle.texts.proofs.Released.{reclaimed-none}
+use Rattle.model.specs.Edits.{releasedAll, freeAll}
+use Rattle.edits.specs.Pooled.{setPool}
+use Rattle.freeing.specs.Freed.{freeAllSlots}
+use Rattle.freeing.specs.Asked.{Freeable, Reclaimable}
+use Rattle.freeing.proofs.Pushed.{pushedAll-texts, pushedAll-count, reclaimed-all}
 use Rattle.freeing.proofs.AllFreed.{textsOfAll, AllFreeable}
 
 -- ---- the lists of different numbers below n are part of all those lists
@@ -151,7 +158,31 @@ module _ (D : Doc) (F : Freeable D) (l : List ℕ) (once : (y : ℕ) → countOf
         texts = record {
           counts = F .counts;
           lengths = F .texts .lengths;
-          made = λ t m. text-below t (omega (arith, mem-count t texts m));
           room = omega (arith, F .textSlots, count-room (length (D .pool .texts)) texts (D .pool .free) text-once text-below);
         };
       }
+
+  -- ---- once they are freed, the bytes of their texts are given back
+
+  pub all-reclaimable : Reclaimable (freeAllSlots D l)
+  unfolding freeAll setPool
+  all-reclaimable = record {
+    counts = F .counts;
+    lengths = F .texts .lengths;
+    made = λ t k.
+        omega (arith, text-below t (omega (arith, pushedAll-count (textsOfAll D l) (D .pool) t)), ap length (pushedAll-texts (textsOfAll D l) (D .pool)));
+  }
+
+-- and that is to free them
+module _ (D : Doc) (F : Freeable D) where
+  free-texts : FreeTexts (D .pool)
+  free-texts = record { inside = λ s k. go s k (decLt s (length (D .pool .texts))); empty = F .texts .emptied }
+    where
+      go : (s : ℕ) → 0 < countOf (eqb s) (D .pool .free) → Dec (s < length (D .pool .texts)) → s < length (D .pool .texts)
+      go s k (yes b) = b
+      go s k (no b) = absurd (omega (arith, F .texts .inside s (omega arith)))
+
+  pub all-reclaimed : (l : List ℕ) → setPool (freeAllSlots D l) (reclaimed (freeAllSlots D l .pool)) ≡ freeAll D l
+  unfolding freeAll setPool
+  all-reclaimed l =
+      ap (setPool (freeAll D l)) (reclaimed-all (textsOfAll D l) (D .pool) ∙ ap (λ (p : Pool). releasedAll p (textsOfAll D l)) (reclaimed-none (D .pool) free-texts))

@@ -1,4 +1,4 @@
--- A turn of `free_subtree`: the top of the stack has its lists pushed, then it is freed.
+-- A turn of `free_nodes`: the top of the stack has its lists pushed, then it is freed.
 -- Assumes nothing.
 use mathlib.Core.Path.{_≡_, refl, sym, ap, _∙_, subst}
 use mathlib.Core.Bool.{true}
@@ -27,6 +27,7 @@ use Rattle.memory.specs.Decode.{slotsMade, poolIn, namesIn, lengthsAdd, decode}
 use Rattle.memory.specs.Step.{Step}
 use Rattle.memory.proofs.Columns.{length-gens}
 use Rattle.memory.proofs.Limits.{sizes, limits-fit, memory-limits}
+use Rattle.edits.specs.Pooled.{setPool}
 use Rattle.edits.proofs.Composed.{step-none, step-as, step-memory, step-next}
 use Rattle.walks.specs.Order.{pushedIn, ListHeld}
 use Rattle.walks.proofs.Distinct.{distinct-map, mem-map-cases, count-distinct, pigeonhole}
@@ -34,23 +35,23 @@ use Rattle.walks.proofs.Pushing.{stack-lists}
 use Rattle.walks.proofs.Renewing.{stackOf, stack-top}
 use Rattle.walks.proofs.Visits.{Nest}
 use Rattle.walks.proofs.Walkable.{live-of, same-index, index-made, nest-pushed}
-use Rattle.freeing.specs.Freed.{freeNode}
-use Rattle.freeing.specs.Asked.{NodeFreeable, SubtreeFreeable}
+use Rattle.freeing.specs.Freed.{freeNode, freeAllSlots}
+use Rattle.freeing.specs.Asked.{NodeFreeable, SubtreeFreeable, Reclaimable}
 use Rattle.freeing.proofs.AllFreed.{freeAll-none, freeAll-next, next-freeable}
-use Rattle.freeing.proofs.Room.{all-freeable}
+use Rattle.freeing.proofs.Room.{all-freeable, all-reclaimable}
 use Rattle.freeing.proofs.Visited.{Met, met-first, met-next}
 
 -- freeing changes no list, and makes no slot
-range-freed : (D : Doc) (l : List ℕ) (w : Which) (s : ℕ) → rangeIn (freeAll D l) w s ≡ rangeIn D w s
-unfolding freeAll
+range-freed : (D : Doc) (l : List ℕ) (w : Which) (s : ℕ) → rangeIn (freeAllSlots D l) w s ≡ rangeIn D w s
+unfolding freeAll setPool
 range-freed D l w s = refl
 
-list-freed : (D : Doc) (l : List ℕ) (w : Which) (s : ℕ) → listIn (freeAll D l) w s ≡ listIn D w s
-unfolding freeAll
+list-freed : (D : Doc) (l : List ℕ) (w : Which) (s : ℕ) → listIn (freeAllSlots D l) w s ≡ listIn D w s
+unfolding freeAll setPool
 list-freed D l w s = refl
 
-slots-freed : (D : Doc) (l : List ℕ) → length (freeAll D l .gens) ≡ length (D .gens)
-unfolding freeAll
+slots-freed : (D : Doc) (l : List ℕ) → length (freeAllSlots D l .gens) ≡ length (D .gens)
+unfolding freeAll setPool
 slots-freed D l = length-raisedAll l (D .gens)
 
 module _ (d : Document) (mem₀ : List ℕ) (h : ℕ) where
@@ -62,7 +63,7 @@ module _ (d : Document) (mem₀ : List ℕ) (h : ℕ) where
     pub tall : height ≤ length stack
     pub same-room : length stack ≡ room
     pub done : List ℕ
-    pub step : Step d mem₀ document mem (freeAll (decode d mem₀) done)
+    pub step : Step d mem₀ document mem (freeAllSlots (decode d mem₀) done)
     pub whole : done ++ walk (pushedBy (decode d mem₀)) left (stackOf height stack) ≡ subtree (decode d mem₀) h
     pub turns : length done + left ≡ slotsMade d
     pub met : Met (pushedBy (decode d mem₀)) (λ y. resolves (decode d mem₀) y ≡ true) (parentAt (decode d mem₀)) h done (stackOf height stack)
@@ -100,7 +101,7 @@ module _ (d : Document) (mem₀ : List ℕ) (h : ℕ) where
       tall = omega arith;
       same-room = refl;
       done = [];
-      step = step-none d mem₀ (freeAll D []) (freeAll-none D (S .outdated));
+      step = step-none d mem₀ (freeAllSlots D []) (freeAll-none D (S .outdated));
       whole = ap (λ (k : ℕ). walk (pushedBy D) k (h ∷ [])) (e ∙ sym (length-gens (poolIn d mem₀) (namesIn d mem₀) (lengthsAdd d mem₀) d mem₀));
       turns = omega arith;
       met = met-first (pushedBy D) (λ y. resolves D y ≡ true) (parentAt D) h nest;
@@ -129,7 +130,7 @@ module _ (d : Document) (mem₀ : List ℕ) (h : ℕ) where
       turn-left = omega (arith, fits (F .done) (word ∷ stackOf (height - 1) stack) m, F .turns)
 
       pub memory-freed : memoryOk document (length mem) ≡ true
-      memory-freed = step-memory d mem₀ document mem (freeAll D (F .done)) (F .step) ok
+      memory-freed = step-memory d mem₀ document mem (freeAllSlots D (F .done)) (F .step) ok
 
       module _ (s : ℕ) (e : s ≡ handleIndex (getD stack (height - 1) 0)) where
         -- ---- its lists
@@ -205,9 +206,9 @@ module _ (d : Document) (mem₀ : List ℕ) (h : ℕ) where
               same-room = size ∙ F .same-room;
               done = F .done ++ (word ∷ []);
               step =
-                  step-as d mem₀ document′ mem′ (freeNode (freeAll D (F .done)) s) (freeAll D (F .done ++ (word ∷ [])))
-                  (step-next d mem₀ document mem (freeAll D (F .done)) (F .step) (λ (x : Doc). freeNode x s) document′ mem′ t)
-                  (ap (freeNode (freeAll D (F .done))) e ∙ freeAll-next D (F .done) word);
+                  step-as d mem₀ document′ mem′ (freeNode (freeAllSlots D (F .done)) s) (freeAllSlots D (F .done ++ (word ∷ [])))
+                  (step-next d mem₀ document mem (freeAllSlots D (F .done)) (F .step) (λ (x : Doc). freeNode x s) document′ mem′ t)
+                  (ap (freeNode (freeAllSlots D (F .done))) e ∙ freeAll-next D (F .done) word);
               whole = append-assoc (F .done) (word ∷ []) _ ∙ ap (λ (x : List ℕ). F .done ++ x) (walked left turn-left top) ∙ F .whole;
               turns = let r = F .turns in omega (arith, turn-left, length-append (F .done) (word ∷ []));
               met = subst (Meets (F .done ++ (word ∷ []))) (sym top) m′;
@@ -223,10 +224,13 @@ module _ (d : Document) (mem₀ : List ℕ) (h : ℕ) where
                 ∙ sym (ap (walk (pushedBy D) (suc n)) (stack-top stack height pos (F .tall)))
 
     pub freeing-last : (room : ℕ) (document : Document) (mem stack : List ℕ) (height left : ℕ) → Freeing room document mem stack height left → height ≤ 0
-        → Step d mem₀ document mem (freeAll (decode d mem₀) (subtree (decode d mem₀) h))
+        → Step d mem₀ document mem (freeAllSlots (decode d mem₀) (subtree (decode d mem₀) h)) × Reclaimable (freeAllSlots (decode d mem₀) (subtree (decode d mem₀) h))
     freeing-last room document mem stack zero left F b =
-        step-as d mem₀ document mem (freeAll D (F .done)) (freeAll D (subtree D h)) (F .step)
-        (ap (freeAll D) (sym (append-nil (F .done)) ∙ ap (λ (x : List ℕ). F .done ++ x) (sym (walk-none left)) ∙ F .whole))
+        let whole : F .done ≡ subtree D h = sym (append-nil (F .done)) ∙ ap (λ (x : List ℕ). F .done ++ x) (sym (walk-none left)) ∙ F .whole in (
+          step-as d mem₀ document mem (freeAllSlots D (F .done)) (freeAllSlots D (subtree D h)) (F .step) (ap (freeAllSlots D) whole),
+          subst (λ (l : List ℕ). Reclaimable (freeAllSlots D l)) whole
+              (all-reclaimable D (S .freeable) (F .done) (λ y. omega (arith, F .met .once y)) (λ y q. F .met .live y (omega (arith, mem-count y (F .done) q)))),
+        )
       where
         walk-none : (n : ℕ) → walk (pushedBy D) n [] ≡ []
         walk-none zero = refl
@@ -248,9 +252,11 @@ module _ (h w : ℕ) (stack : List ℕ) (b : 0 < length stack) (e : w ≡ h) whe
       subst (λ (k : ℕ). Freeing d mem k (length (set stack 0 w)) d mem (set stack 0 w) 1 left) (sym lowest)
       (subst (λ (k : ℕ). Freeing d mem h (length (set stack 0 k)) d mem (set stack 0 k) 1 left) (sym e) (freeing-first d mem h ok S stack left b q))
 
-  pub lowest-last : (d : Document) (mem : List ℕ) (r : Document) (mem′ : List ℕ) → Step d mem r mem′ (freeAll (decode d mem) (subtree (decode d mem) (getD (set stack 0 w) 0 0)))
-      → Step d mem r mem′ (freeAll (decode d mem) (subtree (decode d mem) h))
-  lowest-last d mem r mem′ s = subst (λ (k : ℕ). Step d mem r mem′ (freeAll (decode d mem) (subtree (decode d mem) k))) lowest s
+  pub lowest-last : (d : Document) (mem : List ℕ) (r : Document) (mem′ : List ℕ)
+      → Step d mem r mem′ (freeAllSlots (decode d mem) (subtree (decode d mem) (getD (set stack 0 w) 0 0))) × Reclaimable (freeAllSlots (decode d mem) (subtree (decode d mem) (getD (set stack 0 w) 0 0)))
+      → Step d mem r mem′ (freeAllSlots (decode d mem) (subtree (decode d mem) h)) × Reclaimable (freeAllSlots (decode d mem) (subtree (decode d mem) h))
+  lowest-last d mem r mem′ s =
+      subst (λ (k : ℕ). Step d mem r mem′ (freeAllSlots (decode d mem) (subtree (decode d mem) k)) × Reclaimable (freeAllSlots (decode d mem) (subtree (decode d mem) k))) lowest s
 
 pub stack-some : (d : Document) (mem room : ℕ) → memoryOk d mem ≡ true → d .limits .nodes ≤ room → 0 < room
 stack-some d mem room ok b = omega (arith, limits-fit (limitsOf (d .limits)) (memory-limits d mem ok) .some-node)

@@ -2,20 +2,27 @@
 use mathlib.Core.Path.{_≡_}
 use mathlib.Core.Bool.{true, false}
 use mathlib.Core.Option.{Option, none}
-use mathlib.Core.List.{List, List·Memᴰ}
+use mathlib.Core.List.{List}
 use Prim.Native.Nat.{ℕ, _+_, _≤_, _<_}
 use lib.ListN.{length, getD}
+use lib.Dec.{eqb}
+use Rattle.words.specs.Lists.{countOf}
 use Rattle.blocks.specs.Rule.{Inside}
 use Rattle.model.specs.Kinds.{Which, textsOf}
 use Rattle.model.specs.Doc.{Doc, liveSlot, resolves, kindIn, parentAt, rangeIn}
 use Rattle.model.specs.Rules.{FreeList, Entries, Texts, slotsHeld}
 
--- the texts were made, and the free text list has room for them
+-- the free text list has room for the texts
 pub record Releasable (D : Doc) (l : List (Option ℕ)) : Type 0 where
   pub counts : D .countsFit ≡ true
   pub lengths : D .lengthsFit ≡ true
-  pub made : (s : ℕ) → List·Memᴰ s (slotsHeld l) → s < length (D .pool .texts)
   pub room : length (D .pool .free) + length (slotsHeld l) ≤ D .limits .texts
+
+-- each entry of the free text list is a text slot that was made
+pub record Reclaimable (D : Doc) : Type 0 where
+  pub counts : D .countsFit ≡ true
+  pub lengths : D .lengthsFit ≡ true
+  pub made : (s : ℕ) → 0 < countOf (eqb s) (D .pool .free) → s < length (D .pool .texts)
 
 -- the slot was made, and the free list has room for it
 pub record SlotFreeable (D : Doc) (s : ℕ) : Type 0 where

@@ -1,14 +1,17 @@
--- A node freed: its texts released, then its slot free.
+-- A node freed: its text slots on the free text list, then its own slot free. The bytes of all texts are given back after.
 use mathlib.Core.Bool.{false}
-use mathlib.Core.List.{_∷_}
+use mathlib.Core.Option.{Option}
+use mathlib.Core.List.{List, [], _∷_}
 use Prim.Native.Nat.{ℕ}
 use lib.ListN.{set}
+use Rattle.words.specs.Lists.{joined}
+use Rattle.texts.specs.Pool.{Pool, pushed}
 use Rattle.slots.specs.declared.Chars.the-variants.{Empty}
 use Rattle.slots.specs.declared.NodeData.{NodeData}
 use Rattle.slots.specs.declared.NodeData.the-variants as given
 use Rattle.model.specs.Kinds.{textsOf}
-use Rattle.model.specs.Doc.{Doc, generationAt, kindIn}
-use Rattle.model.specs.Edits.{up, releasedAll}
+use Rattle.model.specs.Doc.{Doc, generationAt, kindIn, kindAt}
+use Rattle.model.specs.Edits.{up, freeAll}
 use Rattle.edits.specs.Pooled.{setPool}
 use Rattle.freeing.specs.declared.release.HeldTexts.{HeldTexts}
 
@@ -40,6 +43,14 @@ freeSlot d s = record {
   lengthsFit = d .lengthsFit;
 }
 
--- the node's texts are released before
+-- the text slots of fields go on the free text list, their bytes stay
+abbrev pub pushedAll : Pool → List (Option ℕ) → Pool
+pushedAll p [] = p
+pushedAll p (t ∷ l) = pushedAll (pushed p t) l
+
 abbrev pub freeNode : Doc → ℕ → Doc
-freeNode d s = freeSlot (setPool d (releasedAll (d .pool) (textsOf (kindIn d s)))) s
+freeNode d s = freeSlot (setPool d (pushedAll (d .pool) (textsOf (kindIn d s)))) s
+
+-- `freeAll` before the bytes are given back
+abbrev pub freeAllSlots : Doc → List ℕ → Doc
+freeAllSlots d l = setPool (freeAll d l) (pushedAll (d .pool) (joined (λ h. textsOf (kindAt d h)) l))

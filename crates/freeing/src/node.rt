@@ -8,7 +8,7 @@ ghost use Rattle.memory.specs.Step.{Step};
 ghost use Rattle.edits.specs.Slot.{withSlots};
 ghost use Rattle.freeing.specs.Freed.{freeSlot, freeNode};
 ghost use Rattle.freeing.specs.Asked.{SlotFreeable, NodeFreeable};
-use crate::release::release_texts;
+use crate::release::push_texts;
 use memory::layout::Counts;
 use memory::layout::Document;
 use slots::NodeSlot;
@@ -50,11 +50,11 @@ fn free_slot(d: Document, mem: &mut [u64], slot: NodeSlot) -> Document
     with_free(d, free)
 }
 
-// The node's texts are released before its slot is free.
+// The node's text slots go on the free text list before its own slot is free.
 pub fn free_node(d: Document, mem: &mut [u64], slot: NodeSlot) -> Document
     requires { ⌜ (memoryOk d (length (now mem)) ≡ true) × NodeFreeable (decode d (now mem)) (slot .0) ⌝ }
     ensures { λ r. ⌜ Step d (now (mem .entry)) r (now (mem .exit)) (freeNode (decode d (now (mem .entry))) (slot .0)) ⌝ }
 {
-    let emptied = release_texts(d, mem, slot);
-    free_slot(emptied, mem, slot)
+    let pushed = push_texts(d, mem, slot);
+    free_slot(pushed, mem, slot)
 }

@@ -1,19 +1,19 @@
-// The texts of a node are released.
+// The texts of nodes are released: each slot goes on the free text list, then the bytes of all are given back.
 ghost use mathlib.Core.Path.{_≡_};
 ghost use mathlib.Core.Bool.{true};
 ghost use mathlib.Core.Option.{some};
 ghost use mathlib.Core.List.{_∷_, []};
-ghost use Prim.Native.Nat.{_<_};
+ghost use Prim.Native.Nat.{_≤_, _<_};
 ghost use lib.ListN.{length};
 ghost use Rattle.model.specs.Kinds.{textsOf};
 ghost use Rattle.model.specs.Doc.{kindIn};
-ghost use Rattle.model.specs.Edits.{releasedAll};
+ghost use Rattle.texts.specs.Pool.{reclaimed};
 ghost use Rattle.memory.specs.Layout.{memoryOk};
 ghost use Rattle.memory.specs.Decode.{slotOf, kindOf, slotsMade, decode};
 ghost use Rattle.memory.specs.Step.{Step};
 ghost use Rattle.edits.specs.Pooled.{setPool};
-ghost use Rattle.freeing.specs.Freed.{textsIn};
-ghost use Rattle.freeing.specs.Asked.{Releasable};
+ghost use Rattle.freeing.specs.Freed.{textsIn, pushedAll};
+ghost use Rattle.freeing.specs.Asked.{Releasable, Reclaimable};
 use edits::storing::with_texts;
 use memory::layout::Document;
 use slots::Chars;
@@ -30,10 +30,10 @@ pub struct HeldTexts {
     pub second: Chars,
 }
 
-// The bytes of a text slot are given back, and the slot goes on the free text list.
-fn release_slot(d: Document, mem: &mut [u64], slot: TextSlot) -> Document
+// The text slot goes on the free text list. Its bytes are given back by `reclaim_texts`.
+fn push_slot(d: Document, mem: &mut [u64], slot: TextSlot) -> Document
     requires { ⌜ (memoryOk d (length (now mem)) ≡ true) × Releasable (decode d (now mem)) (some (slot .0) ∷ []) ⌝ }
-    ensures { λ r. ⌜ Step d (now (mem .entry)) r (now (mem .exit)) (setPool (decode d (now (mem .entry))) (releasedAll (decode d (now (mem .entry)) .pool) (some (slot .0) ∷ []))) ⌝ }
+    ensures { λ r. ⌜ Step d (now (mem .entry)) r (now (mem .exit)) (setPool (decode d (now (mem .entry))) (pushedAll (decode d (now (mem .entry)) .pool) (some (slot .0) ∷ []))) ⌝ }
 {
     let l = d.limits;
     let c = d.counts;
@@ -49,18 +49,18 @@ fn release_slot(d: Document, mem: &mut [u64], slot: TextSlot) -> Document
     let start = memory::layout::texts_at(l);
     let end = start + (2 * l.texts + l.textbytes);
     let number = slot.0;
-    let after = texts::edits::release_text(&mut mem[start..end], limits, counts, number as usize);
+    let after = texts::release::push_slot(&mut mem[start..end], limits, counts, number as usize);
     with_texts(d, after)
 }
 
 // A text stored empty has no slot.
-fn release_chars(d: Document, mem: &mut [u64], field: Chars) -> Document
+fn push_chars(d: Document, mem: &mut [u64], field: Chars) -> Document
     requires { ⌜ (memoryOk d (length (now mem)) ≡ true) × Releasable (decode d (now mem)) (slotOf field ∷ []) ⌝ }
-    ensures { λ r. ⌜ Step d (now (mem .entry)) r (now (mem .exit)) (setPool (decode d (now (mem .entry))) (releasedAll (decode d (now (mem .entry)) .pool) (slotOf field ∷ []))) ⌝ }
+    ensures { λ r. ⌜ Step d (now (mem .entry)) r (now (mem .exit)) (setPool (decode d (now (mem .entry))) (pushedAll (decode d (now (mem .entry)) .pool) (slotOf field ∷ []))) ⌝ }
 {
     match field {
         Chars::Empty => d,
-        Chars::Expanded(slot) => release_slot(d, mem, slot),
+        Chars::Expanded(slot) => push_slot(d, mem, slot),
     }
 }
 
@@ -99,28 +99,56 @@ fn texts_in(data: NodeData) -> HeldTexts
     }
 }
 
-fn release_data(d: Document, mem: &mut [u64], data: NodeData) -> Document
+fn push_data(d: Document, mem: &mut [u64], data: NodeData) -> Document
     requires { ⌜ (memoryOk d (length (now mem)) ≡ true) × Releasable (decode d (now mem)) (textsOf (kindOf «data»)) ⌝ }
-    ensures { λ r. ⌜ Step d (now (mem .entry)) r (now (mem .exit)) (setPool (decode d (now (mem .entry))) (releasedAll (decode d (now (mem .entry)) .pool) (textsOf (kindOf «data»)))) ⌝ }
+    ensures { λ r. ⌜ Step d (now (mem .entry)) r (now (mem .exit)) (setPool (decode d (now (mem .entry))) (pushedAll (decode d (now (mem .entry)) .pool) (textsOf (kindOf «data»)))) ⌝ }
 {
     let held = texts_in(data);
     let first = held.first;
     let second = held.second;
-    let emptied = release_chars(d, mem, first);
-    release_chars(emptied, mem, second)
+    let pushed = push_chars(d, mem, first);
+    push_chars(pushed, mem, second)
 }
 
 // The texts of the node in a slot, in the order in which its fields hold them.
-pub fn release_texts(d: Document, mem: &mut [u64], slot: NodeSlot) -> Document
+pub fn push_texts(d: Document, mem: &mut [u64], slot: NodeSlot) -> Document
     requires { ⌜ (memoryOk d (length (now mem)) ≡ true) × (slot .0 < slotsMade d) × Releasable (decode d (now mem)) (textsOf (kindIn (decode d (now mem)) (slot .0))) ⌝ }
-    ensures { λ r. ⌜ Step d (now (mem .entry)) r (now (mem .exit)) (setPool (decode d (now (mem .entry))) (releasedAll (decode d (now (mem .entry)) .pool) (textsOf (kindIn (decode d (now (mem .entry))) (slot .0))))) ⌝ }
+    ensures { λ r. ⌜ Step d (now (mem .entry)) r (now (mem .exit)) (setPool (decode d (now (mem .entry))) (pushedAll (decode d (now (mem .entry)) .pool) (textsOf (kindIn (decode d (now (mem .entry))) (slot .0))))) ⌝ }
 {
     let loaded = memory::read::load(d, &mem[..], slot);
     match loaded {
         Loaded::Found(node) => {
             let data = node.data;
-            release_data(d, mem, data)
+            push_data(d, mem, data)
         }
         Loaded::NoNode => d,
     }
+}
+
+// Gives back the bytes of every text on the free text list, in one pass. Scratch holds the marks, and anything after.
+pub fn reclaim_texts(d: Document, mem: &mut [u64], scratch: &mut [u64]) -> Document
+    requires { ⌜ (memoryOk d (length (now mem)) ≡ true) × (d .limits .texts ≤ length (now scratch)) × Reclaimable (decode d (now mem)) ⌝ }
+    ensures { λ r. ⌜ Step d (now (mem .entry)) r (now (mem .exit)) (setPool (decode d (now (mem .entry))) (reclaimed (decode d (now (mem .entry)) .pool))) ⌝ }
+{
+    let l = d.limits;
+    let c = d.counts;
+    let limits = TextLimits {
+        slots: l.texts,
+        bytes: l.textbytes,
+    };
+    let counts = TextCounts {
+        slots: c.texts,
+        free: c.freetexts,
+        bytes: c.textbytes,
+    };
+    let start = memory::layout::texts_at(l);
+    let end = start + (2 * l.texts + l.textbytes);
+    let marks = c.texts;
+    let after = texts::release::reclaim(
+        &mut mem[start..end],
+        limits,
+        counts,
+        &mut scratch[0..marks],
+    );
+    with_texts(d, after)
 }

@@ -12,8 +12,10 @@ ghost use Rattle.model.specs.Calls.{removed};
 ghost use Rattle.memory.specs.Layout.{memoryOk, buffersOk};
 ghost use Rattle.memory.specs.Decode.{decode};
 ghost use Rattle.memory.specs.Step.{Step};
-ghost use Rattle.freeing.specs.Asked.{SubtreeFreeable};
+ghost use Rattle.freeing.specs.Freed.{freeAllSlots};
+ghost use Rattle.freeing.specs.Asked.{SubtreeFreeable, Reclaimable};
 use crate::node::free_node;
+use crate::release::reclaim_texts;
 use edits::hooks::unhook;
 use memory::layout::Document;
 use memory::read::made;
@@ -24,9 +26,10 @@ use slots::handle::word_of;
 use walks::list::push_lists;
 
 // Pushes children, attributes and namespaces, pops from the end, and frees each after pushing its own.
-fn free_subtree(d: Document, mem: &mut [u64], stack: &mut [u64], id: NodeId) -> Document
+fn free_nodes(d: Document, mem: &mut [u64], stack: &mut [u64], id: NodeId) -> Document
     requires { ⌜ (memoryOk d (length (now mem)) ≡ true) × (d .limits .nodes ≤ length (now stack)) × SubtreeFreeable (decode d (now mem)) (wordOf id) ⌝ }
-    ensures { λ r. ⌜ Step d (now (mem .entry)) r (now (mem .exit)) (freeAll (decode d (now (mem .entry))) (subtree (decode d (now (mem .entry))) (wordOf id))) ⌝ }
+    ensures { λ r. ⌜ Step d (now (mem .entry)) r (now (mem .exit)) (freeAllSlots (decode d (now (mem .entry))) (subtree (decode d (now (mem .entry))) (wordOf id))) ⌝ }
+    ensures { λ _. ⌜ Reclaimable (freeAllSlots (decode d (now (mem .entry))) (subtree (decode d (now (mem .entry))) (wordOf id))) ⌝ }
 {
     stack[0] = word_of(id);
     let mut height = 1;
@@ -43,7 +46,16 @@ fn free_subtree(d: Document, mem: &mut [u64], stack: &mut [u64], id: NodeId) -> 
     document
 }
 
-// The node is taken off its parent, then freed with all below it. Scratch holds the stack, and anything after.
+// Each text slot is on the free text list then, and the bytes of all are given back at once. Scratch holds the stack, then the marks.
+fn free_subtree(d: Document, mem: &mut [u64], scratch: &mut [u64], id: NodeId) -> Document
+    requires { ⌜ (memoryOk d (length (now mem)) ≡ true) × (d .limits .nodes ≤ length (now scratch)) × (d .limits .texts ≤ length (now scratch)) × SubtreeFreeable (decode d (now mem)) (wordOf id) ⌝ }
+    ensures { λ r. ⌜ Step d (now (mem .entry)) r (now (mem .exit)) (freeAll (decode d (now (mem .entry))) (subtree (decode d (now (mem .entry))) (wordOf id))) ⌝ }
+{
+    let freed = free_nodes(d, mem, scratch, id);
+    reclaim_texts(freed, mem, scratch)
+}
+
+// The node is taken off its parent, then freed with all below it. Scratch holds anything after.
 pub fn do_remove(d: Document, mem: &mut [u64], scratch: &mut [u64], id: NodeId) -> Document
     requires { ⌜ (buffersOk d (length (now mem)) (length (now scratch)) ≡ true) × Rules (decode d (now mem)) × (resolves (decode d (now mem)) (wordOf id) ≡ true) × (isRoot (kindAt (decode d (now mem)) (wordOf id)) ≡ false) ⌝ }
     ensures { λ r. ⌜ Step d (now (mem .entry)) r (now (mem .exit)) (removed (decode d (now (mem .entry))) (wordOf id)) ⌝ }

@@ -15,9 +15,10 @@ use borrow.Author.Tests.{leb-false, lt-leb}
 use Rattle.words.specs.Parts.{part}
 use Rattle.words.specs.Lists.{sum}
 use Rattle.words.proofs.Lists.{length-tabulate, getD-tabulate}
-use Rattle.words.proofs.Lengths.{sum-take-le, piece-number}
+use Rattle.words.proofs.Lengths.{sum-take-le}
 use Rattle.texts.specs.Pool.{Pool, textAt}
-use Rattle.texts.specs.Words.{bytesAt, textShown, poolOf, Counted}
+use Rattle.texts.specs.Words.{textShown, poolOf, Counted}
+use Rattle.texts.proofs.Places.{shown-empty}
 use Rattle.texts.proofs.Words.{pool-slots, shown-text}
 use Rattle.names.specs.Table.{Name, name, nameAt}
 use Rattle.names.specs.Words.{partShown, nameShown, nameThere, tableOf, TableHeld}
@@ -153,7 +154,6 @@ module _ (d : Document) (mem : List ℕ) where
 
   -- ---- and its texts
   pub text-shown : (t : ℕ) → textAt (poolIn d mem) (some t) ≡ textShown (textLimits d) (textCounts d) t (textsPart d mem)
-  unfolding textShown
   text-shown t = go (decLt t k)
     where
       k : ℕ
@@ -163,10 +163,7 @@ module _ (d : Document) (mem : List ℕ) where
       go (yes b) = getD-tabulate (λ s. textShown (textLimits d) (textCounts d) s (textsPart d mem)) k t [] b
       go (no b) =
           List·getD-eq-default (poolIn d mem .texts) [] {n = t} (omega (arith, length-tabulate (λ s. textShown (textLimits d) (textCounts d) s (textsPart d mem)) k))
-          ∙ sym (past (omega arith))
-        where
-          past : k ≤ t → textShown (textLimits d) (textCounts d) t (textsPart d mem) ≡ []
-          past h = piece-number k (min (d .counts .textbytes) (d .limits .textbytes)) t (textsPart d mem) (bytesAt (textLimits d)) h
+          ∙ sym (shown-empty (textLimits d) (textCounts d) t (textsPart d mem) (omega arith))
 
   -- ---- where counts and lengths are right, they are the pool and the table that the words hold
   pub names-held : TableHeld (nameLimits d) (nameCounts d) (namesPart d mem) → namesIn d mem ≡ tableOf (nameLimits d) (nameCounts d) (namesPart d mem)

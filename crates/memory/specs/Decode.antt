@@ -25,6 +25,7 @@ use Rattle.slots.specs.declared.Loaded.{Loaded}
 use Rattle.slots.specs.declared.Loaded.the-variants.{Found, NoNode}
 use Rattle.model.specs.Kinds.{Kind, root, element, attribute, text, comment, namespace, instruction, Which, children, attributes, namespaces}
 use Rattle.texts.specs.Pool.{Pool}
+use Rattle.texts.specs.Ends.{endsReach}
 use Rattle.texts.specs.Words.{textShown}
 use Rattle.texts.specs.declared.TextLimits.{TextLimits}
 use Rattle.texts.specs.declared.TextCounts.{TextCounts}
@@ -195,11 +196,15 @@ shownBelow f (suc n) = shownBelow f n ++ shownName (f n)
 abbrev pub namesIn : Document → List ℕ → List Name
 namesIn d mem = shownBelow (λ i. nameShown (nameLimits d) (nameCounts d) i (namesPart d mem)) (min (d .counts .names) (d .limits .names))
 
--- rule 8: "text and name lengths add to the bytes used"
+-- rule 8: "text and name lengths add to the bytes used", the texts' by their ends
+abbrev pub textsAdd : Document → List ℕ → Bool
+textsAdd d mem = endsReach 0 (take (d .counts .texts) (textsPart d mem)) (d .counts .textbytes)
+
+abbrev pub namesAdd : Document → List ℕ → Bool
+namesAdd d mem = eqb (sum (take (d .counts .names + d .counts .names) (namesPart d mem))) (d .counts .namebytes)
+
 unfoldable pub lengthsAdd : Document → List ℕ → Bool
-lengthsAdd d mem =
-    eqb (sum (take (d .counts .texts) (textsPart d mem))) (d .counts .textbytes)
-    && eqb (sum (take (d .counts .names + d .counts .names) (namesPart d mem))) (d .counts .namebytes)
+lengthsAdd d mem = textsAdd d mem && namesAdd d mem
 
 -- the document of a record and a buffer
 abbrev pub decode : Document → List ℕ → Doc

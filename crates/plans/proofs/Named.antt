@@ -8,7 +8,6 @@ use Prim.Native.Nat.{ℕ, zero, suc, _+_, _-_, _*_, _≤_, _<_, min}
 use native.Mathlib.Omega.{arith}
 use lib.ListN.{length, take, drop}
 use lib.Seq.{take-suc, take-length}
-use lib.Dec.{eqb}
 use borrow.Author.Tests.{eqb-true}
 use Rattle.words.specs.Lists.{sum}
 use Rattle.words.proofs.Parts.{length-part, lent}
@@ -20,7 +19,7 @@ use Rattle.names.proofs.Words.{table-names, shown-name}
 use Rattle.model.specs.Calls.{nameFitsIn}
 use Rattle.memory.specs.declared.layout.Document.{Document}
 use Rattle.memory.specs.Layout.{limitsOf, namesAt, namesWords}
-use Rattle.memory.specs.Decode.{nameLimits, nameCounts, namesPart, textsPart, shownBelow, namesIn, lengthsAdd, decode}
+use Rattle.memory.specs.Decode.{nameLimits, nameCounts, namesPart, shownBelow, namesIn, textsAdd, namesAdd, lengthsAdd, decode}
 use Rattle.memory.proofs.Limits.{limits-fit, words-fit, memory-limits, memory-long, words-next}
 use Rattle.memory.specs.Undamaged.{Undamaged}
 use Rattle.plans.proofs.Counts.{counts-within}
@@ -39,7 +38,7 @@ shown-taken t (suc n) h =
 
 lengths-add : (d : Document) (mem : List ℕ) → lengthsAdd d mem ≡ true → sum (take (d .counts .names + d .counts .names) (namesPart d mem)) ≡ d .counts .namebytes
 unfolding lengthsAdd
-lengths-add d mem h = eqb-true _ _ (and-right (eqb (sum (take (d .counts .texts) (textsPart d mem))) (d .counts .textbytes)) _ h)
+lengths-add d mem h = eqb-true _ _ (and-right (textsAdd d mem) (namesAdd d mem) h)
 
 module _ (d : Document) (mem : List ℕ) (u : Undamaged d mem) where
   pub held : TableHeld (nameLimits d) (nameCounts d) (namesPart d mem)

@@ -4,17 +4,15 @@ use mathlib.Core.Path.{_≡_, refl, sym, ap, _∙_}
 use mathlib.Core.Bool.{Bool, true, false, cond, false≢true}
 use mathlib.Core.Option.{Option, none, some}
 use mathlib.Core.List.{List, [], _∷_}
-use Prim.Native.Nat.{ℕ, zero, suc, _+_, _-_, _*_, _≤_, _<_, min}
+use Prim.Native.Nat.{ℕ, zero, suc, _+_, _-_, _*_, _≤_, _<_}
 use native.Mathlib.Omega.{arith}
 use native.Mathlib.Decide.{decLt}
-use lib.ListN.{length, take, drop, getD, List·getD-eq-default}
+use lib.ListN.{length, take, drop, List·getD-eq-default}
 use lib.Dec.{eqb}
 use borrow.Author.Tests.{eqb-true}
-use Rattle.words.specs.Pieces.{placeOf}
 use Rattle.words.specs.declared.pieces.Place.{Place}
 use Rattle.words.proofs.Parts.{lent}
 use Rattle.words.proofs.Tests.{and-left}
-use Rattle.words.proofs.Lengths.{place-number}
 use Rattle.slots.specs.Handles.{wordOf, handleIndex}
 use Rattle.slots.specs.declared.NodeId.{NodeId}
 use Rattle.slots.specs.declared.Parent.{Parent}
@@ -25,7 +23,9 @@ use Rattle.slots.specs.declared.TextSlot.{TextSlot}
 use Rattle.slots.specs.declared.Node.{Node}
 use Rattle.slots.specs.declared.Loaded.the-variants.{Found, NoNode}
 use Rattle.texts.specs.Pool.{Pool, slotsFor, textAt}
-use Rattle.texts.specs.Words.{poolOf, bytesAt, countsFit}
+use Rattle.texts.specs.Ends.{lengthOf}
+use Rattle.texts.specs.Words.{poolOf, bytesAt, placeShown, countsFit}
+use Rattle.texts.proofs.Places.{shown-nowhere}
 use Rattle.texts.proofs.Words.{pool-slots, shown-place, text-length, text-ends}
 use Rattle.model.specs.Kinds.{Kind, isRoot, replaceable}
 use Rattle.model.specs.Doc as doc
@@ -89,7 +89,7 @@ module _ (d : Document) (mem : List ℕ) (u : Undamaged d mem) where
   abbrev words : List ℕ
   words = textsPart d mem
 
-  old-length : (s : ℕ) (p : Place) → p ≡ placeOf (min (d .counts .texts) (d .limits .texts)) (min (d .counts .textbytes) (d .limits .textbytes)) s (textsPart d mem)
+  old-length : (s : ℕ) (p : Place) → p ≡ placeShown (textLimits d) (textCounts d) s (textsPart d mem)
       → (p .len ≡ length (doc.bytesAt (decode d mem) (some s))) × (p .len ≤ d .counts .textbytes)
   old-length s p e = go (decLt s (d .counts .texts))
     where
@@ -98,11 +98,11 @@ module _ (d : Document) (mem : List ℕ) (u : Undamaged d mem) where
 
       go : Dec (s < d .counts .texts) → (p .len ≡ length (doc.bytesAt (decode d mem) (some s))) × (p .len ≤ d .counts .textbytes)
       go (yes h) =
-          let q : p .len ≡ getD words s 0 = ap (λ (x : Place). x .len) (e ∙ shown-place (textLimits d) (textCounts d) words (counted d mem u) s h) in
+          let q : p .len ≡ lengthOf words s = ap (λ (x : Place). x .len) (e ∙ shown-place (textLimits d) (textCounts d) words (counted d mem u) s h) in
           let b = text-ends (textLimits d) (textCounts d) words (counted d mem u) s h in
           (q ∙ sym (ap length same ∙ text-length (textLimits d) (textCounts d) words (counted d mem u) s h), omega arith)
       go (no h) =
-          let q : p .len ≡ 0 = ap (λ (x : Place). x .len) (e ∙ place-number (min (d .counts .texts) (d .limits .texts)) (min (d .counts .textbytes) (d .limits .textbytes)) s words (omega arith)) in
+          let q : p .len ≡ 0 = ap (λ (x : Place). x .len) (e ∙ shown-nowhere (textLimits d) (textCounts d) s words (omega arith)) in
           let z : textAt (poolOf (textLimits d) (textCounts d) words) (some s) ≡ [] =
           List·getD-eq-default (poolOf (textLimits d) (textCounts d) words .texts) [] {n = s} (omega (arith, pool-slots (textLimits d) (textCounts d) words (counted d mem u))) in
           (q ∙ sym (ap length (same ∙ z)), omega arith)
@@ -124,9 +124,9 @@ module _ (d : Document) (mem : List ℕ) (u : Undamaged d mem) where
     place-asked = ap length texts-lent ∙ counted d mem u .size
 
     pub place-told : (s : ℕ) (p : Place)
-        → p ≡ placeOf (min (d .counts .texts) (d .limits .texts)) (min (d .counts .textbytes) (d .limits .textbytes)) s (take (start + (d .limits .texts + d .limits .texts + d .limits .textbytes) - start) (drop start mem))
+        → p ≡ placeShown (textLimits d) (textCounts d) s (take (start + (d .limits .texts + d .limits .texts + d .limits .textbytes) - start) (drop start mem))
         → (p .len ≡ length (doc.bytesAt (decode d mem) (some s))) × (p .len ≤ d .counts .textbytes)
-    place-told s p q = old-length s p (q ∙ ap (placeOf (min (d .counts .texts) (d .limits .texts)) (min (d .counts .textbytes) (d .limits .textbytes)) s) texts-lent)
+    place-told s p q = old-length s p (q ∙ ap (placeShown (textLimits d) (textCounts d) s) texts-lent)
 
   -- ---- Full
 

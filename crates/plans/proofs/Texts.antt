@@ -5,12 +5,10 @@ use mathlib.Core.Bool.{Bool, true}
 use mathlib.Core.List.{List, [], _∷_, reverse}
 use Prim.Native.Nat.{ℕ, _+_, _≤_, min}
 use native.Mathlib.Omega.{arith}
-use lib.ListN.{length, take}
+use lib.ListN.{length}
 use lib.Seq.{ext-getD}
-use lib.Dec.{eqb}
-use borrow.Author.Tests.{eqb-true}
 use Rattle.words.specs.Parts.{part}
-use Rattle.words.specs.Lists.{tabulate, sum}
+use Rattle.words.specs.Lists.{tabulate}
 use Rattle.words.proofs.Parts.{length-part}
 use Rattle.words.proofs.Lists.{length-tabulate, getD-tabulate}
 use Rattle.words.proofs.Tests.{and-left}
@@ -20,19 +18,16 @@ use Rattle.texts.proofs.Words.{pool-slots, fits-pool, shown-text}
 use Rattle.model.specs.Calls.{textFits, twoFit}
 use Rattle.memory.specs.declared.layout.Document.{Document}
 use Rattle.memory.specs.Layout.{limitsOf, textsAt, textsWords}
-use Rattle.memory.specs.Decode.{textLimits, textCounts, textsPart, poolIn, lengthsAdd, decode}
+use Rattle.memory.specs.Decode.{textLimits, textCounts, textsPart, poolIn, textsAdd, namesAdd, lengthsAdd, decode}
 use Rattle.memory.proofs.Limits.{memory-long, names-next, words-next}
 use Rattle.memory.specs.Undamaged.{Undamaged}
 use Rattle.plans.proofs.Counts.{counts-within}
 
-lengths-add : (d : Document) (mem : List ℕ) → lengthsAdd d mem ≡ true → sum (take (d .counts .texts) (textsPart d mem)) ≡ d .counts .textbytes
+texts-reach : (d : Document) (mem : List ℕ) → lengthsAdd d mem ≡ true → textsAdd d mem ≡ true
 unfolding lengthsAdd
-lengths-add d mem h = eqb-true _ _ (and-left (eqb (sum (take (d .counts .texts) (textsPart d mem))) (d .counts .textbytes)) _ h)
+texts-reach d mem h = and-left (textsAdd d mem) (namesAdd d mem) h
 
 module _ (d : Document) (mem : List ℕ) (u : Undamaged d mem) where
-  texts-sum : sum (take (d .counts .texts) (textsPart d mem)) ≡ d .counts .textbytes
-  texts-sum = lengths-add d mem (u .rules .texts .lengths)
-
   pub counted : Counted (textLimits d) (textCounts d) (textsPart d mem)
   counted =
       let l = limitsOf (d .limits) in
@@ -44,7 +39,7 @@ module _ (d : Document) (mem : List ℕ) (u : Undamaged d mem) where
         slots = w .texts;
         free = w .freetexts;
         bytes = w .textbytes;
-        sums = texts-sum;
+        ends = texts-reach d mem (u .rules .texts .lengths);
       }
 
   free-same : reverse (part (d .limits .texts) (min (d .counts .freetexts) (d .limits .texts)) (textsPart d mem)) ≡ poolOf (textLimits d) (textCounts d) (textsPart d mem) .free

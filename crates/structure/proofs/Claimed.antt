@@ -1,8 +1,7 @@
 -- Rule 5: the claims that the blocks of all slots make are those of the document's blocks, and they are met exactly where the rule holds.
 -- Assumes nothing.
 use mathlib.Core.Path.{_≡_, refl, sym, ap, ap₂, _∙_}
-use mathlib.Core.Bool.{Bool, true, false, not, _&&_, cond, and-false}
-use mathlib.Core.Option.{none}
+use mathlib.Core.Bool.{Bool, true, false, not}
 use mathlib.Core.List.{List, []}
 use Prim.Native.Nat.{ℕ, _+_, _-_, _*_, _≤_, _<_}
 use native.Mathlib.Numerals.{add-one}
@@ -11,21 +10,17 @@ use lib.ListN.{length, take, drop, replicate}
 use lib.Dec.{leb}
 use borrow.Author.Tests.{leb-true}
 use Rattle.words.specs.Parts.{part}
-use Rattle.words.specs.Lists.{allBelow}
 use Rattle.words.proofs.Parts.{lent}
 use Rattle.words.proofs.Tests.{and-left, and-right}
 use Rattle.blocks.specs.Arena.{Arena, Block, block, arenaOf}
-use Rattle.blocks.specs.Rule.{Shaped, BlocksApart}
+use Rattle.blocks.specs.Rule.{Shaped}
 use Rattle.blocks.specs.Claims.{blockClaimable, blockClaimed, marksAfter, allClaimable}
 use Rattle.blocks.proofs.Decision.{decided-rule, rule-decided}
 use Rattle.slots.proofs.Lists.{allBelow-next, allBelow-not}
-use Rattle.slots.specs.declared.Node.{Node}
 use Rattle.slots.specs.declared.Range.{Range}
-use Rattle.slots.specs.declared.Loaded.{Loaded}
-use Rattle.slots.specs.declared.Loaded.the-variants.{Found, NoNode}
 use Rattle.model.specs.Kinds.{Which, children, attributes, namespaces}
-use Rattle.model.specs.Doc.{Doc, Limits, limitsOk, liveSlot, rangeIn}
-use Rattle.model.specs.Rules.{blockIn, Blocks}
+use Rattle.model.specs.Doc.{Doc, Limits, liveSlot, rangeIn}
+use Rattle.model.specs.Rules.{blockIn}
 use Rattle.model.specs.RulesTest.{allWhich, blocksHold}
 use Rattle.model.proofs.Quantifiers.{which-at, at-which}
 use Rattle.model.proofs.RulesTestBlocks.{blocks-of-test, test-of-blocks}
@@ -34,26 +29,23 @@ use Rattle.memory.specs.declared.layout.Limits as given
 use Rattle.memory.specs.declared.layout.Arena as names
 use Rattle.memory.specs.declared.layout.Arena.the-variants.{Children, Attributes, Namespaces}
 use Rattle.memory.specs.Layout.{whichOf, limitsOf, entriesOf, arenaAt, scratchWords, memoryOk, buffersOk}
-use Rattle.memory.specs.Decode.{blockOf, rangeOf, slotsMade, arenaPart, arenaUsed, arenaIn}
-use Rattle.memory.proofs.Limits.{LimitsFit, limits-fit, memory-limits, sizes}
+use Rattle.memory.specs.Decode.{blockOf, slotsMade, arenaPart, arenaUsed, arenaIn}
+use Rattle.memory.proofs.Limits.{limits-fit, memory-limits}
 use Rattle.memory.proofs.Columns.{length-gens, live-past}
 use Rattle.memory.proofs.Shaped.{length-ids, length-caps, shape}
-use Rattle.entries.proofs.Live.{live-found, live-none}
-use Rattle.entries.specs.Nodes.{noTexts, decodeNodes, liveAt}
+use Rattle.entries.specs.Nodes.{noTexts, decodeNodes}
 use Rattle.structure.specs.Scratch.{marksAt}
 use Rattle.structure.specs.Tests.{claimsMet}
 use Rattle.structure.proofs.Lists.{both-ways, not-true, not-false}
 
 -- ---- the block of a slot
 
-module _ (d : Document) (mem : List ℕ) (w : Which) (i : ℕ) (h : i < slotsMade d) (l : Loaded) (e : l ≡ liveAt d mem i) where
-  pub block-found : (m : Node) (r : Range) → l ≡ Found m → blockOf r ≡ rangeOf w m → blockOf r ≡ blockIn (decodeNodes d mem) w i
-  block-found m r q f =
-      let v = live-found d mem i noTexts [] true h m (sym e ∙ q) in
-      f ∙ sym (v .range w) ∙ sym (rw (v .live))
+module _ (D : Doc) (w : Which) (i : ℕ) (t : Bool) (e : t ≡ liveSlot D i) where
+  pub block-live : t ≡ true → (r : Range) → blockOf r ≡ rangeIn D w i → blockOf r ≡ blockIn D w i
+  block-live y r f = f ∙ sym (rw (sym e ∙ y))
 
-  pub block-none : l ≡ NoNode → block 0 0 ≡ blockIn (decodeNodes d mem) w i
-  block-none q = sym (rw (live-none d mem i noTexts [] true h (sym e ∙ q)))
+  pub block-none : t ≡ false → block 0 0 ≡ blockIn D w i
+  block-none n = sym (rw (sym e ∙ n))
 
 -- ---- one claim, over the arena's part as it is lent
 

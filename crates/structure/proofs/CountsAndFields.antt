@@ -1,47 +1,47 @@
 -- Rule 1: the tests of the counts, of the words and of the Root are the rule's.
 -- Assumes nothing.
 use mathlib.Core.Path.{_≡_, refl, sym, ap, ap₂, _∙_}
-use mathlib.Core.Bool.{Bool, true, false, not, _&&_, cond, and-true, and-false, and-assoc, false≢true}
-use mathlib.Core.Option.{Option, none, some}
+use mathlib.Core.Bool.{Bool, true, false, not, _&&_, cond, and-true, and-false}
+use mathlib.Core.Option.{none}
 use mathlib.Core.List.{List, []}
 use Prim.Native.Nat.{ℕ, _+_, _*_, _%_, _≤_, _<_}
 use native.Mathlib.Omega.{arith}
 use lib.ListN.{length, getD}
 use lib.Seq.{getD-drop}
-use lib.Dec.{eqb, ltb, leb}
+use lib.Dec.{eqb, leb}
 use borrow.Author.Tests.{lt-ltb, le-ltb, ltb-true, le-leb, eq-eqb, ne-eqb, eqb-true}
 use Rattle.words.specs.Lists.{allBelow}
 use Rattle.words.proofs.Parts.{getD-part}
-use Rattle.words.proofs.Tests.{and-left, and-right, and-both}
+use Rattle.words.proofs.Lists.{getD-tabulate}
+use Rattle.words.proofs.Tests.{and-left, and-right}
 use Rattle.slots.specs.Records.{foundNode, nodeOf, isNode}
-use Rattle.slots.specs.Regions.{generationAt, recordAt, nodeAt, orderAt}
-use Rattle.slots.specs.WordsRule.{WordsRule, wordsRule}
+use Rattle.slots.specs.Regions.{generationAt, recordAt, nodeAt}
+use Rattle.slots.specs.WordsRule.{wordsRule}
 use Rattle.slots.proofs.WordsRule.{words-rule-of, of-words-rule}
 use Rattle.slots.proofs.Lists.{allBelow-next, allBelow-not, allBelow-same}
-use Rattle.slots.specs.declared.Node.{Node}
 use Rattle.slots.specs.declared.NodeRecord.{NodeRecord}
 use Rattle.slots.specs.declared.Parent.{Parent}
 use Rattle.slots.specs.declared.Parent.the-variants.{None, Of}
 use Rattle.slots.specs.declared.NodeId.{NodeId}
-use Rattle.slots.specs.declared.Loaded.{Loaded}
 use Rattle.slots.specs.declared.Loaded.the-variants.{Found, NoNode}
-use Rattle.model.specs.Kinds.{Kind, Which, children, attributes, namespaces, isRoot}
+use Rattle.model.specs.Kinds.{Which, children, attributes, namespaces, isRoot}
 use Rattle.model.specs.Doc as model
-use Rattle.model.specs.Doc.{Doc, liveSlot, kindIn, parentIn, even, isSome, isNone, anyOption}
+use Rattle.model.specs.Doc.{Doc, liveSlot, kindIn, parentIn, even, isSome, isNone}
 use Rattle.model.specs.RulesTest as test
 use Rattle.model.specs.RulesTest.{implies, fitsField, allSlots, allLive, allWhich, wordsWithin, oneRoot, countsAndFieldsHold}
+use Rattle.model.proofs.Basics.{live-node}
 use Rattle.model.proofs.Quantifiers.{slots-at, at-slots, implies-true, true-implies}
 use Rattle.memory.specs.declared.layout.Document.{Document}
 use Rattle.memory.specs.declared.layout.Limits as given
 use Rattle.memory.specs.declared.layout.Counts.{Counts}
 use Rattle.memory.specs.Layout.{limitsOf, entriesOf, arenaAt}
-use Rattle.memory.specs.Decode.{kindOf, handleOf, kindLoaded, parentLoaded, loadedAt, countsWithin, slotsPart, slotsMade, arenaPart, arenaUsed, arenaIn}
-use Rattle.memory.proofs.Columns.{length-gens, generation-in, kind-column, parent-in, order-in, generation-past}
-use Rattle.entries.proofs.Live.{live-found, live-none}
-use Rattle.entries.specs.Nodes.{noTexts, decodeNodes, liveAt}
+use Rattle.memory.specs.Decode.{handleOf, kindLoaded, countsWithin, slotsPart, slotsMade, arenaPart, arenaUsed, arenaIn}
+use Rattle.memory.proofs.Columns.{length-gens, generation-in, kind-column, order-in, generation-past}
+use Rattle.entries.specs.Nodes.{noTexts, decodeNodes, wordsHold, kindNumber}
+use Rattle.entries.proofs.Words.{generation-word, live-word}
 use Rattle.structure.specs.Tests.{fitsAt, capacitiesFit, arenasFit, rootStands, rootTest, onlyRoot}
-use Rattle.structure.proofs.Columns.{generation-word}
-use Rattle.structure.proofs.Lists.{both-ways}
+use Rattle.structure.proofs.KindNumbers.{root-kind}
+use Rattle.structure.proofs.Lists.{both-ways, not-true, not-false}
 
 -- ---- the counts
 
@@ -95,12 +95,22 @@ arenas-fit d mem a b c p r ea eb ec ep er = er ∙ rw (ep, ea, eb, ec)
 
 -- ---- the Root
 
-module _ (m : Node) where
-  pub top-none : (r : Bool) → r ≡ isRoot (kindOf (m .«data»)) → m .parent ≡ None → r ≡ (isRoot (kindOf (m .«data»)) && isNone (handleOf (m .parent)))
-  top-none r e q = e ∙ sym (ap (λ (x : Parent). isRoot (kindOf (m .«data»)) && isNone (handleOf x)) q ∙ and-true (isRoot (kindOf (m .«data»))))
+module _ (D : Doc) (kind : ℕ) (k : kind ≡ kindNumber (kindIn D 0)) where
+  root-known : eqb kind 0 ≡ isRoot (kindIn D 0)
+  root-known = ap (λ (x : ℕ). eqb x 0) k ∙ root-kind (kindIn D 0)
 
-  pub top-some : (id : NodeId) → m .parent ≡ Of id → false ≡ (isRoot (kindOf (m .«data»)) && isNone (handleOf (m .parent)))
-  top-some id q = sym (ap (λ (x : Parent). isRoot (kindOf (m .«data»)) && isNone (handleOf x)) q ∙ and-false (isRoot (kindOf (m .«data»))))
+  pub top-other : (kind ≡ 0 → ⊥) → false ≡ (isRoot (kindIn D 0) && isNone (parentIn D 0))
+  top-other n = ap (λ (t : Bool). t && isNone (parentIn D 0)) (sym (ne-eqb kind 0 n) ∙ root-known)
+
+  module _ (z : kind ≡ 0) (p : Parent) (f : handleOf p ≡ parentIn D 0) where
+    top-parent : isNone (handleOf p) ≡ (isRoot (kindIn D 0) && isNone (parentIn D 0))
+    top-parent = ap isNone f ∙ ap (λ (t : Bool). t && isNone (parentIn D 0)) (sym (eq-eqb kind 0 z) ∙ root-known)
+
+    pub top-none : p ≡ None → true ≡ (isRoot (kindIn D 0) && isNone (parentIn D 0))
+    top-none q = sym (ap (λ (x : Parent). isNone (handleOf x)) q) ∙ top-parent
+
+    pub top-some : (id : NodeId) → p ≡ Of id → false ≡ (isRoot (kindIn D 0) && isNone (parentIn D 0))
+    top-some id q = sym (ap (λ (x : Parent). isNone (handleOf x)) q) ∙ top-parent
 
 module _ (d : Document) (mem : List ℕ) where
   abbrev doc : Doc
@@ -118,20 +128,15 @@ module _ (d : Document) (mem : List ℕ) where
     unfolding rootStands
     root-old n = sym (rw (generation-in noTexts [] true d mem 0 first, ← q, ne-eqb g 0 n))
 
-    module _ (z : g ≡ 0) (l : Loaded) (f : l ≡ loadedAt (d .limits .nodes) (slotsPart d mem) 0) where
-      pub root-found : (m : Node) (r : Bool) → l ≡ Found m → r ≡ (isRoot (kindOf (m .«data»)) && isNone (handleOf (m .parent))) → r ≡ rootStands (decodeNodes d mem)
-      unfolding rootStands
-      root-found m r h k =
-          let v : model.generationAt doc 0 ≡ 0 = generation-in noTexts [] true d mem 0 first ∙ sym q ∙ z in
-          let a : getD (doc .kinds) 0 none ≡ some (kindOf (m .«data»)) = kind-column noTexts [] true d mem 0 first ∙ ap kindLoaded (sym f ∙ h) in
-          let b : parentIn doc 0 ≡ handleOf (m .parent) = parent-in noTexts [] true d mem 0 first ∙ ap parentLoaded (sym f ∙ h) in
-          k ∙ sym (rw (v, a, b))
+    module _ (z : g ≡ 0) (words : wordsHold d mem ≡ true) where
+      pub first-live : liveSlot (decodeNodes d mem) 0 ≡ true
+      first-live = sym (live-word d mem 0 0 words first (sym (generation-word d mem 0 (omega arith) ∙ sym q ∙ z)))
 
-      pub root-no-node : l ≡ NoNode → false ≡ rootStands (decodeNodes d mem)
+      pub root-top : (r : Bool) → r ≡ (isRoot (kindIn (decodeNodes d mem) 0) && isNone (parentIn (decodeNodes d mem) 0)) → r ≡ rootStands (decodeNodes d mem)
       unfolding rootStands
-      root-no-node h =
-          let a : getD (doc .kinds) 0 none ≡ none = kind-column noTexts [] true d mem 0 first ∙ ap kindLoaded (sym f ∙ h) in
-          sym (rw (a, and-false (eqb (model.generationAt doc 0) 0)))
+      root-top r k =
+          let v : model.generationAt doc 0 ≡ 0 = generation-in noTexts [] true d mem 0 first ∙ sym q ∙ z in
+          k ∙ sym (rw (v, live-node doc 0 first-live))
 
   -- ---- the only Root
 
@@ -149,22 +154,25 @@ module _ (d : Document) (mem : List ℕ) where
     unfolding rootTest
     root-first e = sym (rw (eq-eqb i 0 e) (root-anywhere (liveSlot doc i) (isRoot (kindIn doc i))))
 
-    module _ (h : i < slotsMade d) (l : Loaded) (e : l ≡ liveAt d mem i) where
-      pub no-other-root : (i ≡ 0 → ⊥) → (m : Node) (t : Bool) → l ≡ Found m → t ≡ isRoot (kindOf (m .«data»)) → not t ≡ rootTest (decodeNodes d mem) i
+    module _ (t : Bool) (e : t ≡ liveSlot (decodeNodes d mem) i) where
+      pub no-other-root : (i ≡ 0 → ⊥) → t ≡ true → (kind : ℕ) → kind ≡ kindNumber (kindIn (decodeNodes d mem) i) → not (eqb kind 0) ≡ rootTest (decodeNodes d mem) i
       unfolding rootTest
-      no-other-root n m t q k =
-          let v = live-found d mem i noTexts [] true h m (sym e ∙ q) in
-          sym (rw (v .live, v .kind, ← k, ne-eqb i 0 n) (root-nowhere t))
+      no-other-root n y kind k =
+          ap not (ap (λ (x : ℕ). eqb x 0) k ∙ root-kind (kindIn doc i))
+          ∙ sym (rw (sym e ∙ y, ne-eqb i 0 n) (root-nowhere (isRoot (kindIn doc i))))
 
-      pub no-root : l ≡ NoNode → true ≡ rootTest (decodeNodes d mem) i
+      pub no-root : t ≡ false → true ≡ rootTest (decodeNodes d mem) i
       unfolding rootTest
-      no-root q = sym (rw (live-none d mem i noTexts [] true h (sym e ∙ q)))
+      no-root q = sym (rw (sym e ∙ q))
 
   pub all-roots : allBelow (rootTest (decodeNodes d mem)) (slotsMade d) ≡ onlyRoot (decodeNodes d mem)
   unfolding rootTest onlyRoot allLive
   all-roots = ap (allBelow (rootTest doc)) (sym (length-gens noTexts [] true d mem))
 
 -- ---- the words of the slots
+
+generation-column : (d : Document) (mem : List ℕ) (i : ℕ) → i < slotsMade d → getD (decodeNodes d mem .gens) i 0 ≡ generationAt (d .limits .nodes) (slotsPart d mem) i
+generation-column d mem i h = getD-tabulate (generationAt (d .limits .nodes) (slotsPart d mem)) (slotsMade d) i 0 h
 
 node-some : (r : NodeRecord) → isSome (kindLoaded (nodeOf r)) ≡ isNode r
 unfolding nodeOf
@@ -208,7 +216,7 @@ module _ (d : Document) (mem : List ℕ) where
       let r = words-rule-of n words (slotsMade d) e in
       rw (
         at-slots nodes (λ i. fitsField (getD (nodes .gens) i 0)) (λ i b.
-            lt-ltb (getD (nodes .gens) i 0) 4294967296 (rw (generation-word noTexts [] true d mem i (below-made i b)) (r .generation i (below-made i b)))),
+            lt-ltb (getD (nodes .gens) i 0) 4294967296 (rw (generation-column d mem i (below-made i b)) (r .generation i (below-made i b)))),
         at-slots nodes (λ i. implies (even (model.generationAt nodes i)) (isSome (getD (nodes .kinds) i none))) (λ i b.
             true-implies (even (model.generationAt nodes i)) (isSome (getD (nodes .kinds) i none)) (λ v.
             kind-there i (below-made i b) (r .generation i (below-made i b))
@@ -234,7 +242,7 @@ module _ (d : Document) (mem : List ℕ) where
     where
       narrow : (i : ℕ) → i < slotsMade d → generationAt n words i < 4294967296
       narrow i h =
-          rw (generation-word noTexts [] true d mem i h) at (ltb-true (getD (nodes .gens) i 0) 4294967296
+          rw (generation-column d mem i h) at (ltb-true (getD (nodes .gens) i 0) 4294967296
           (slots-at nodes (λ i. fitsField (getD (nodes .gens) i 0)) (search (and-left, and-right)) i (made-below i h)))
 
   -- ---- the rule
@@ -259,11 +267,33 @@ module _ (d : Document) (mem : List ℕ) where
   unfolding rootStands onlyRoot oneRoot
   root-same = refl
 
-  pub fields-hold : (counts slots arenas stands only a b c r : Bool) → counts ≡ countsWithin (limitsOf (d .limits)) (d .counts)
-      → slots ≡ wordsRule (d .limits .nodes) (slotsPart d mem) (slotsMade d) → arenas ≡ arenasFit (decodeNodes d mem) → a ≡ (slots && arenas)
-      → stands ≡ rootStands (decodeNodes d mem) → only ≡ onlyRoot (decodeNodes d mem) → b ≡ (stands && only) → c ≡ (counts && a) → r ≡ (c && b)
-      → r ≡ countsAndFieldsHold (decodeNodes d mem)
+  abbrev holds : Bool
+  holds = wordsRule n words (slotsMade d)
+
+  fields-are : (countsWithin (limitsOf (d .limits)) (d .counts) && (holds && arenasFit nodes) && (rootStands nodes && onlyRoot nodes)) ≡ countsAndFieldsHold nodes
   unfolding countsAndFieldsHold
-  fields-hold counts slots arenas stands only a b c r ec es ea qa et eo qb qc qr =
-      qr
-      ∙ ap₂ _&&_ (qc ∙ ap₂ _&&_ (ec ∙ counts-same) (qa ∙ ap₂ _&&_ es ea ∙ words-same)) (qb ∙ ap₂ _&&_ et eo ∙ root-same)
+  fields-are = ap₂ _&&_ (ap₂ _&&_ counts-same words-same) root-same
+
+  module _ (slots : Bool) (es : slots ≡ wordsHold d mem) where
+    pub fields-broken : not slots ≡ true → false ≡ countsAndFieldsHold (decodeNodes d mem)
+    fields-broken q =
+        sym (ap (λ (t : Bool). t && (rootStands nodes && onlyRoot nodes))
+        (ap (λ (t : Bool). countsWithin (limitsOf (d .limits)) (d .counts) && (t && arenasFit nodes)) (sym es ∙ not-true slots q)
+        ∙ and-false (countsWithin (limitsOf (d .limits)) (d .counts))))
+        ∙ fields-are
+
+    pub fields-hold : not slots ≡ false → (counts arenas stands only a b r : Bool) → counts ≡ countsWithin (limitsOf (d .limits)) (d .counts)
+        → arenas ≡ arenasFit (decodeNodes d mem) → a ≡ (counts && arenas) → stands ≡ rootStands (decodeNodes d mem) → only ≡ onlyRoot (decodeNodes d mem) → b ≡ (stands && only)
+        → r ≡ (a && b) → r ≡ countsAndFieldsHold (decodeNodes d mem)
+    fields-hold y counts arenas stands only a b r ec ea qa et eo qb qr =
+        qr
+        ∙ ap₂ _&&_ (qa ∙ ap₂ _&&_ ec ea) (qb ∙ ap₂ _&&_ et eo)
+        ∙ ap (λ (t : Bool). countsWithin (limitsOf (d .limits)) (d .counts) && (t && arenasFit nodes) && (rootStands nodes && onlyRoot nodes)) (sym (not-false slots y) ∙ es)
+        ∙ fields-are
+
+  -- what the other rules' checks build on
+  pub words-there : countsAndFieldsHold (decodeNodes d mem) ≡ true → wordsHold d mem ≡ true
+  words-there h =
+      let all = fields-are ∙ h in
+      let front = and-left (countsWithin (limitsOf (d .limits)) (d .counts) && (holds && arenasFit nodes)) (rootStands nodes && onlyRoot nodes) all in
+      and-left holds (arenasFit nodes) (and-right (countsWithin (limitsOf (d .limits)) (d .counts)) (holds && arenasFit nodes) front)

@@ -1,4 +1,4 @@
-pub mod Columns
+pub mod KindNumbers
 pub mod Lists
 pub mod Owners
 pub mod FreeStacks

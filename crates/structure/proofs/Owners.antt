@@ -1,105 +1,84 @@
 -- Rule 3: the parent that is read of a slot is tested as the document's.
 -- Assumes nothing.
-use mathlib.Core.Path.{_≡_, refl, sym, ap, _∙_, subst}
-use mathlib.Core.Bool.{Bool, true, false, _&&_, cond, false≢true, true≢false}
-use mathlib.Core.Option.{Option, none, some}
+use mathlib.Core.Path.{_≡_, sym, ap, _∙_}
+use mathlib.Core.Bool.{Bool, true, false, not, _&&_}
+use mathlib.Core.Option.{some}
 use mathlib.Core.List.{List, []}
-use Prim.Native.Nat.{ℕ, _≤_, _<_}
-use lib.ListN.{length}
-use lib.Dec.{ltb}
+use Prim.Native.Nat.{ℕ, _%_}
+use lib.Dec.{eqb, leb}
+use borrow.Author.Tests.{eq-eqb, ne-eqb}
 use Rattle.words.specs.Lists.{allBelow}
-use Rattle.slots.specs.Fields.{ParentFits}
 use Rattle.slots.specs.Handles.{wordOf}
 use Rattle.slots.specs.declared.NodeId.{NodeId}
-use Rattle.slots.specs.declared.Node.{Node}
 use Rattle.slots.specs.declared.Parent.{Parent}
 use Rattle.slots.specs.declared.Parent.the-variants.{None, Of}
-use Rattle.slots.specs.declared.Loaded.{Loaded}
-use Rattle.slots.specs.declared.Loaded.the-variants.{Found, NoNode}
-use Rattle.model.specs.Kinds.{Kind, Which, children, attributes, namespaces, sameWhich, whichOf, isContainer, isElement, owns}
-use Rattle.model.specs.Doc.{Doc, liveSlot, kindIn, parentIn, even}
+use Rattle.model.specs.Doc.{Doc, liveSlot, resolves, kindIn, kindAt, parentIn}
 use Rattle.model.specs.RulesTest.{implies, allLive, parentHolds, parentsHold}
 use Rattle.memory.specs.declared.layout.Document.{Document}
-use Rattle.memory.specs.Decode.{kindOf, handleOf, loadedAt, slotsPart, slotsMade, resolvedIn}
-use Rattle.memory.proofs.Shaped.{loaded-fits}
-use Rattle.memory.proofs.Columns.{length-gens, resolved-none}
-use Rattle.entries.proofs.Live.{live-found, live-none}
-use Rattle.entries.specs.Nodes.{noTexts, decodeNodes, liveAt}
-use Rattle.structure.specs.Tests.{parentFits, parentTest}
-use Rattle.structure.proofs.Columns.{live-loaded, resolved-found}
+use Rattle.memory.specs.Decode.{handleOf, slotsMade}
+use Rattle.memory.proofs.Columns.{length-gens}
+use Rattle.entries.specs.Nodes.{noTexts, decodeNodes, kindNumber}
+use Rattle.structure.specs.Tests.{childNumber, ownsNumber, parentTest}
+use Rattle.structure.proofs.KindNumbers.{child-kind, owns-kind}
 
--- ---- which kinds own which list
+-- ---- kinds by their numbers
 
-module _ (k q : Kind ℕ (Option ℕ)) (t r : Bool) (e : t ≡ sameWhich (whichOf k) children) where
-  pub owns-children : t ≡ true → r ≡ isContainer q → r ≡ owns (whichOf k) q
-  owns-children h f = f ∙ go (whichOf k) (sym e ∙ h)
-    where
-      go : (w : Which) → sameWhich w children ≡ true → isContainer q ≡ owns w q
-      go children g = refl
-      go attributes g = absurd (false≢true g)
-      go namespaces g = absurd (false≢true g)
+pub child-not : (kind : ℕ) → kind ≡ 2 → false ≡ childNumber kind
+unfolding childNumber
+child-not kind e = sym (rw (eq-eqb kind 2 e))
 
-  pub owns-lists : t ≡ false → r ≡ isElement q → r ≡ owns (whichOf k) q
-  owns-lists h f = f ∙ go (whichOf k) (sym e ∙ h)
-    where
-      go : (w : Which) → sameWhich w children ≡ false → isElement q ≡ owns w q
-      go children g = absurd (true≢false g)
-      go attributes g = refl
-      go namespaces g = refl
+pub child-rest : (kind : ℕ) → (kind ≡ 2 → ⊥) → not (eqb kind 5) ≡ childNumber kind
+unfolding childNumber
+child-rest kind n = sym (rw (ne-eqb kind 2 n))
+
+module _ (owner owned : ℕ) (t : Bool) (e : t ≡ childNumber owned) where
+  pub owns-children : t ≡ true → leb owner 1 ≡ ownsNumber owner owned
+  unfolding ownsNumber
+  owns-children y = sym (rw (sym e ∙ y))
+
+  pub owns-lists : t ≡ false → eqb owner 1 ≡ ownsNumber owner owned
+  unfolding ownsNumber
+  owns-lists n = sym (rw (sym e ∙ n))
 
 -- ---- the parent of a node
 
-module _ (d : Document) (mem : List ℕ) (m : Node) where
-  abbrev doc : Doc
-  doc = decodeNodes d mem
+module _ (D : Doc) (handle kind : ℕ) (t : Bool) (e : t ≡ resolves D handle) where
+  pub owner-current : t ≡ true → (owner : ℕ) (r : Bool) → owner ≡ kindNumber (kindIn D (handle % 4294967296)) → r ≡ ownsNumber owner kind
+      → r ≡ (resolves D handle && ownsNumber (kindNumber (kindAt D handle)) kind)
+  owner-current y owner r o q =
+      q
+      ∙ ap (λ (n : ℕ). ownsNumber n kind) o
+      ∙ ap (λ (u : Bool). u && ownsNumber (kindNumber (kindAt D handle)) kind) (sym y ∙ e)
 
-  pub no-parent : (r : Bool) → r ≡ sameWhich (whichOf (kindOf (m .«data»))) children → m .parent ≡ None
-      → r ≡ parentFits doc (kindOf (m .«data»)) (handleOf (m .parent))
-  no-parent r e q = e ∙ sym (ap (λ (x : Parent). parentFits doc (kindOf (m .«data»)) (handleOf x)) q)
+  pub owner-stale : t ≡ false → false ≡ (resolves D handle && ownsNumber (kindNumber (kindAt D handle)) kind)
+  owner-stale n = ap (λ (u : Bool). u && ownsNumber (kindNumber (kindAt D handle)) kind) (sym n ∙ e)
 
-  module _ (id : NodeId) (q : m .parent ≡ Of id) (f : ParentFits (m .parent)) (l : Loaded) (e : l ≡ resolvedIn d mem id) where
-    abbrev test : Option ℕ → Bool
-    test = parentFits doc (kindOf (m .«data»))
+module _ (D : Doc) (i kind : ℕ) (k : kind ≡ kindNumber (kindIn D i)) (p : Parent) (f : handleOf p ≡ parentIn D i) where
+  pub parent-none : p ≡ None → (r : Bool) → r ≡ childNumber kind → r ≡ parentHolds D i (parentIn D i)
+  parent-none q r e =
+      e
+      ∙ ap childNumber k
+      ∙ child-kind (kindIn D i)
+      ∙ ap (parentHolds D i) (sym (ap handleOf q) ∙ f)
 
-    fits : (id .index < 4294967296) × (id .generation < 4294967296)
-    fits = subst ParentFits q f
-
-    pub parent-found : (owner : Node) (r : Bool) → l ≡ Found owner → r ≡ owns (whichOf (kindOf (m .«data»))) (kindOf (owner .«data»)) → r ≡ test (handleOf (m .parent))
-    parent-found owner r g h =
-        let s = resolved-found noTexts [] true d mem id (fits .0) (fits .1) owner (sym e ∙ g) in
-        h ∙ sym (ap (λ (x : Parent). test (handleOf x)) q ∙ rw (s .resolves, s .kind))
-
-    pub parent-stale : l ≡ NoNode → false ≡ test (handleOf (m .parent))
-    parent-stale g =
-        let s = resolved-none noTexts [] true d mem id (fits .0) (fits .1) (sym e ∙ g) in
-        sym (ap (λ (x : Parent). test (handleOf x)) q ∙ rw s)
+  pub parent-some : (id : NodeId) → p ≡ Of id → (handle : ℕ) (r : Bool) → handle ≡ wordOf id
+      → r ≡ (resolves D handle && ownsNumber (kindNumber (kindAt D handle)) kind) → r ≡ parentHolds D i (parentIn D i)
+  parent-some id q handle r w e =
+      e
+      ∙ ap (λ (t : Bool). resolves D handle && t) (ap (ownsNumber (kindNumber (kindAt D handle))) k ∙ owns-kind (kindAt D handle) (kindIn D i))
+      ∙ ap (λ (h : ℕ). parentHolds D i (some h)) w
+      ∙ ap (parentHolds D i) (sym (ap handleOf q) ∙ f)
 
 -- ---- a slot
 
-module _ (d : Document) (mem : List ℕ) (i : ℕ) (l : Loaded) (e : l ≡ liveAt d mem i) where
-  -- the node's numbers are of 32 bits
-  pub live-fits : (m : Node) → l ≡ Found m → ParentFits (m .parent)
-  live-fits m q = loaded-fits (d .limits .nodes) (slotsPart d mem) i m (live-loaded d mem i m (sym e ∙ q)) .fits-parent
+module _ (D : Doc) (i : ℕ) (t : Bool) (e : t ≡ liveSlot D i) where
+  pub slot-live : t ≡ true → (r : Bool) → r ≡ parentHolds D i (parentIn D i) → r ≡ parentTest D i
+  unfolding parentTest
+  slot-live y r f = f ∙ ap (λ (u : Bool). implies u (parentHolds D i (parentIn D i))) (sym y ∙ e)
 
-  module _ (h : i < slotsMade d) where
-    same-test : (k : Kind ℕ (Option ℕ)) (o : Option ℕ) → kindIn (decodeNodes d mem) i ≡ k → parentHolds (decodeNodes d mem) i o ≡ parentFits (decodeNodes d mem) k o
-    same-test k none q = ap (λ (x : Kind ℕ (Option ℕ)). parentFits (decodeNodes d mem) x none) q
-    same-test k (some p) q = ap (λ (x : Kind ℕ (Option ℕ)). parentFits (decodeNodes d mem) x (some p)) q
-
-    pub slot-live : (m : Node) (r : Bool) → l ≡ Found m → r ≡ parentFits (decodeNodes d mem) (kindOf (m .«data»)) (handleOf (m .parent)) → r ≡ parentTest (decodeNodes d mem) i
-    unfolding parentTest
-    slot-live m r q f =
-        let n = live-found d mem i noTexts [] true h m (sym e ∙ q) in
-        f
-        ∙ sym (same-test (kindOf (m .«data»)) (handleOf (m .parent)) (n .kind))
-        ∙ ap (parentHolds (decodeNodes d mem) i) (sym (n .parent))
-        ∙ ap (λ (t : Bool). implies t (parentHolds (decodeNodes d mem) i (parentIn (decodeNodes d mem) i))) (sym (n .live))
-
-    pub slot-free : l ≡ NoNode → true ≡ parentTest (decodeNodes d mem) i
-    unfolding parentTest
-    slot-free q =
-        ap (λ (t : Bool). implies t (parentHolds (decodeNodes d mem) i (parentIn (decodeNodes d mem) i)))
-        (sym (live-none d mem i noTexts [] true h (sym e ∙ q)))
+  pub slot-free : t ≡ false → true ≡ parentTest D i
+  unfolding parentTest
+  slot-free n = ap (λ (u : Bool). implies u (parentHolds D i (parentIn D i))) (sym n ∙ e)
 
 pub all-parents : (d : Document) (mem : List ℕ) → allBelow (parentTest (decodeNodes d mem)) (slotsMade d) ≡ parentsHold (decodeNodes d mem)
 unfolding parentTest parentsHold allLive

@@ -1,65 +1,55 @@
 -- Rule 7: the elements that are counted are those of the Root's list of children.
 -- Assumes nothing.
-use mathlib.Core.Path.{_≡_, refl, sym, ap, ap₂, _∙_}
-use mathlib.Core.Bool.{Bool, true, false, cond, false≢true, true≢false}
-use mathlib.Core.Option.{Option, none, some}
+use mathlib.Core.Path.{_≡_, sym, ap, ap₂, _∙_}
+use mathlib.Core.Bool.{Bool, true, false, cond}
+use mathlib.Core.Option.{none}
 use mathlib.Core.List.{List, []}
 use Prim.Native.Nat.{ℕ, _+_, _%_, _≤_, _<_}
 use native.Mathlib.Numerals.{add-one}
-use native.Mathlib.Decide.{decLt}
 use native.Mathlib.Omega.{arith}
-use lib.ListN.{length, getD, List·getD-eq-default}
-use lib.Dec.{leb}
+use lib.ListN.{length, getD}
+use lib.Dec.{eqb, leb}
 use Rattle.words.specs.Parts.{part}
-use Rattle.words.specs.Lists.{countOf, tabulate}
-use Rattle.words.proofs.Parts.{length-part, part-none, part-snoc}
-use Rattle.words.proofs.Lists.{countOf-le, length-tabulate}
-use Rattle.words.proofs.Tests.{and-both}
-use Rattle.blocks.specs.Arena.{block, listOf}
+use Rattle.words.specs.Lists.{all, countOf}
+use Rattle.words.proofs.Parts.{length-part, getD-part, part-none, part-snoc}
+use Rattle.words.proofs.Lists.{countOf-le, allBelow-at}
+use Rattle.words.proofs.Tests.{and-left, and-right, and-both}
+use Rattle.blocks.specs.Arena.{listOf}
 use Rattle.blocks.proofs.Capacities.{capacity-least}
-use Rattle.slots.specs.Handles.{handleIndex}
 use Rattle.slots.proofs.Lists.{countOf-snoc}
-use Rattle.slots.specs.declared.Node.{Node}
-use Rattle.slots.specs.declared.Loaded.{Loaded}
-use Rattle.slots.specs.declared.Loaded.the-variants.{Found, NoNode}
-use Rattle.model.specs.Kinds.{Kind, root, Which, children, isElement}
-use Rattle.model.specs.Doc.{Doc, generationAt, liveSlot, kindIn, kindAt, rangeIn, listIn, even, isSome, orElse}
+use Rattle.slots.specs.declared.Range.{Range}
+use Rattle.model.specs.Kinds.{children}
+use Rattle.model.specs.Doc.{Doc, generationAt, liveSlot, resolves, kindIn, kindAt, parentIn, rangeIn, listIn, even, isSome}
 use Rattle.model.specs.Rules.{blockIn}
-use Rattle.model.specs.RulesTest.{countsAndFieldsHold, blocksHold, oneRootElementHolds}
+use Rattle.model.specs.RulesTest.{allOption, allLive, enteredOnce, entryHolds, countsAndFieldsHold, entriesHold, blocksHold, oneRootElementHolds}
+use Rattle.model.proofs.Quantifiers.{which-at, live-at}
 use Rattle.model.proofs.RulesTestFields.{fields-of-test}
 use Rattle.model.proofs.RulesTestBlocks.{blocks-of-test}
 use Rattle.memory.specs.declared.layout.Document.{Document}
 use Rattle.memory.specs.Layout.{memoryOk}
-use Rattle.memory.specs.Decode.{kindOf, kindLoaded, loadedAt, slotsPart, slotsMade, arenaIn}
-use Rattle.memory.proofs.Columns.{kind-column, kind-found, live-made}
-use Rattle.memory.proofs.Shaped.{length-ids, shape}
-use Rattle.entries.proofs.Live.{live-found, live-none}
-use Rattle.entries.specs.Nodes.{noTexts, decodeNodes, liveAt}
+use Rattle.memory.specs.Decode.{blockOf, arenaIn}
+use Rattle.memory.proofs.Shaped.{shape}
+use Rattle.entries.specs.Nodes.{noTexts, decodeNodes, kindNumber}
+use Rattle.entries.proofs.Lists.{allBelow-all}
 use Rattle.structure.specs.Tests.{elementTest}
+use Rattle.structure.proofs.KindNumbers.{element-kind}
 
 -- ---- an entry
 
-module _ (d : Document) (mem : List ℕ) (word i : ℕ) (e : i ≡ handleIndex word) where
-  abbrev doc : Doc
-  doc = decodeNodes d mem
+pub element-shown : (D : Doc) (handle kind : ℕ) → kind ≡ kindNumber (kindIn D (handle % 4294967296)) → eqb kind 1 ≡ elementTest D handle
+unfolding elementTest
+element-shown D handle kind e = ap (λ (k : ℕ). eqb k 1) e ∙ element-kind (kindAt D handle)
 
-  element-at : (k : Option (Kind ℕ (Option ℕ))) → getD (doc .kinds) i none ≡ k → isElement (orElse root k) ≡ elementTest doc word
-  unfolding elementTest
-  element-at k q =
-      ap (λ (x : Option (Kind ℕ (Option ℕ))). isElement (orElse root x)) (sym q ∙ ap (λ (j : ℕ). getD (doc .kinds) j none) e)
-
-  pub element-past : (made : ℕ) → made ≡ slotsMade d → made ≤ i → false ≡ elementTest (decodeNodes d mem) word
-  element-past made m h =
-      element-at none
-      (List·getD-eq-default (doc .kinds) none
-      (omega (arith, length-tabulate (λ s. kindLoaded (loadedAt (d .limits .nodes) (slotsPart d mem) s)) (slotsMade d))))
-
-  module _ (made : ℕ) (m : made ≡ slotsMade d) (h : i < made) (l : Loaded) (f : l ≡ loadedAt (d .limits .nodes) (slotsPart d mem) i) where
-    pub element-found : (n : Node) (r : Bool) → l ≡ Found n → r ≡ isElement (kindOf (n .«data»)) → r ≡ elementTest (decodeNodes d mem) word
-    element-found n r q g = g ∙ element-at (some (kindOf (n .«data»))) (kind-column noTexts [] true d mem i (omega arith) ∙ ap kindLoaded (sym f ∙ q))
-
-    pub element-none : l ≡ NoNode → false ≡ elementTest (decodeNodes d mem) word
-    element-none q = element-at none (kind-column noTexts [] true d mem i (omega arith) ∙ ap kindLoaded (sym f ∙ q))
+-- an entry of a list that rule 4 holds of resolves
+pub entry-resolves : (D : Doc) (ids : List ℕ) (start len k word : ℕ) → all (entryHolds D children 0) (part start len ids) ≡ true → start + len ≤ length ids → k < len
+    → word ≡ getD ids (start + k) 0 → resolves D word ≡ true
+entry-resolves D ids start len k word h f b e =
+    let n = length-part ids start len f in
+    let q : entryHolds D children 0 (getD (part start len ids) k 0) ≡ true =
+    allBelow-at (λ i. entryHolds D children 0 (getD (part start len ids) i 0)) (length (part start len ids)) (allBelow-all (entryHolds D children 0) (part start len ids) 0 ∙ h) k (omega arith) in
+    let w : getD (part start len ids) k 0 ≡ word = getD-part ids start len k 0 b ∙ sym e in
+    let r : entryHolds D children 0 word ≡ true = rw w at q in
+    search (and-left)
 
 -- ---- counting
 
@@ -89,36 +79,31 @@ module _ (p : ℕ → Bool) (ids : List ℕ) (start : ℕ) where
 
 -- ---- the Root's list
 
-module _ (d : Document) (mem : List ℕ) (ok : memoryOk d (length mem) ≡ true)
-    (fields : countsAndFieldsHold (decodeNodes d mem) ≡ true) (blocks : blocksHold (decodeNodes d mem) ≡ true)
-    (l : Loaded) (e : l ≡ liveAt d mem 0) where
+module _ (d : Document) (mem : List ℕ) (fields : countsAndFieldsHold (decodeNodes d mem) ≡ true) where
   abbrev nodes : Doc
   nodes = decodeNodes d mem
 
-  root-live : liveSlot nodes 0 ≡ true
+  pub root-live : liveSlot (decodeNodes d mem) 0 ≡ true
   root-live =
       let f = fields-of-test nodes fields in
       and-both (even (generationAt nodes 0)) (isSome (getD (nodes .kinds) 0 none)) (rw (f .rootGeneration)) (rw (f .rootKind))
 
-  root-made : 0 < slotsMade d
-  root-made = live-made noTexts [] true d mem 0 root-live
-
-  module _ (m : Node) (q : l ≡ Found m) where
-    root-range : rangeIn nodes children 0 ≡ block (m .children .start) (m .children .len)
-    root-range = live-found d mem 0 noTexts [] true root-made m (sym e ∙ q) .range children
-
-    pub root-inside : m .children .start + m .children .len ≤ d .limits .children
-    root-inside =
+  module _ (r : Range) (e : blockOf r ≡ rangeIn (decodeNodes d mem) children 0) where
+    pub root-inside : memoryOk d (length mem) ≡ true → blocksHold (decodeNodes d mem) ≡ true → r .start + r .len ≤ d .limits .children
+    root-inside ok blocks =
         let b = blocks-of-test nodes (shape noTexts [] true d mem ok) blocks children in
-        let v : blockIn nodes children 0 ≡ block (m .children .start) (m .children .len) = rw root-live root-range in
+        let v : blockIn nodes children 0 ≡ blockOf r = rw root-live (sym e) in
         let i = rw v at (b .inside 0 .below) in
-        omega (arith, i, capacity-least (arenaIn d children mem .caps) (block (m .children .start) (m .children .len)))
+        omega (arith, i, capacity-least (arenaIn d children mem .caps) (blockOf r))
 
-    pub root-elements : (count : ℕ) (r : Bool) → count ≡ countOf (elementTest (decodeNodes d mem)) (listOf (arenaIn d children mem) (block (m .children .start) (m .children .len)))
-        → r ≡ leb count 1 → r ≡ oneRootElementHolds (decodeNodes d mem)
+    pub root-listed : entriesHold (decodeNodes d mem) ≡ true → all (entryHolds (decodeNodes d mem) children 0) (listOf (arenaIn d children mem) (blockOf r)) ≡ true
+    unfolding entriesHold
+    root-listed h =
+        let l = which-at (λ w. allLive nodes (λ i. all (entryHolds nodes w i) (listIn nodes w i))) (and-right (allLive nodes (λ i. allOption (enteredOnce nodes i) (parentIn nodes i))) _ h) children in
+        let a = live-at nodes (λ i. all (entryHolds nodes children i) (listIn nodes children i)) l 0 root-live in
+        ap (λ x. all (entryHolds nodes children 0) (listOf (arenaIn d children mem) x)) e ∙ a
+
+    pub root-elements : (count : ℕ) → count ≡ countOf (elementTest (decodeNodes d mem)) (listOf (arenaIn d children mem) (blockOf r)) → leb count 1 ≡ oneRootElementHolds (decodeNodes d mem)
     unfolding oneRootElementHolds elementTest
-    root-elements count r c k =
-        k ∙ ap (λ (n : ℕ). leb n 1) (c ∙ ap (λ x. countOf (elementTest nodes) (listOf (arenaIn d children mem) x)) (sym root-range))
-
-  pub root-missing : l ≡ NoNode → true ≡ oneRootElementHolds (decodeNodes d mem)
-  root-missing q = absurd (false≢true (sym (live-none d mem 0 noTexts [] true root-made (sym e ∙ q)) ∙ root-live))
+    root-elements count c =
+        ap (λ (n : ℕ). leb n 1) (c ∙ ap (λ x. countOf (elementTest nodes) (listOf (arenaIn d children mem) x)) e)

@@ -1,46 +1,54 @@
--- The texts and the names that are shown are never more than the limits say, so rule 1 is decided without them.
+-- The texts and the names that are shown are never more than the limits say where their lengths add up, so rule 1 is decided without them.
 -- Assumes nothing.
-use mathlib.Core.Path.{_≡_, refl, sym, ap, _∙_}
-use mathlib.Core.Bool.{Bool, true, false, _&&_, cond}
+use mathlib.Core.Path.{_≡_, refl, ap, _∙_}
+use mathlib.Core.Logic.{_⊎_, inl, inr}
+use mathlib.Core.Bool.{Bool, true, false, _&&_}
 use mathlib.Core.Option.{Option, none, some}
 use mathlib.Core.List.{List, [], _∷_, _++_, append-nil}
-use Prim.Native.Nat.{ℕ, zero, suc, _+_, _*_, _≤_, _<_, min}
+use Prim.Native.Nat.{ℕ, zero, suc, _+_, _≤_, _<_, min}
 use native.Mathlib.Omega.{arith}
 use lib.ListN.{length, getD, take, drop, length-take, length-append}
+use lib.Seq.{getD-take}
 use lib.Dec.{ltb, leb}
 use borrow.Author.Tests.{leb-true, le-leb}
 use Rattle.words.specs.Parts.{part}
 use Rattle.words.specs.Lists.{joined, tabulate, sum}
 use Rattle.words.specs.Pieces.{inside, placeOf, pieceOf}
+use Rattle.words.specs.declared.pieces.Place.{Place}
 use Rattle.words.proofs.Parts.{length-part}
 use Rattle.words.proofs.Lists.{length-tabulate}
 use Rattle.words.proofs.Joined.{length-joined-snoc}
 use Rattle.words.proofs.Lengths.{sum-take-suc, sum-take-le}
-use Rattle.words.proofs.Tests.{and-right}
+use Rattle.words.proofs.Tests.{and-left, and-right}
 use Rattle.texts.specs.Pool.{bytesOf}
+use Rattle.texts.specs.Ends.{startOf, lengthOf, endsReach}
 use Rattle.texts.specs.Words as texts
+use Rattle.texts.specs.Words.{placeShown, textShown}
+use Rattle.texts.specs.declared.TextLimits.{TextLimits}
+use Rattle.texts.specs.declared.TextCounts.{TextCounts}
+use Rattle.texts.proofs.Ends.{ends-rise, start-taken}
+use Rattle.texts.proofs.Places.{shown-fits, shown-either}
 use Rattle.names.specs.Table.{Name, name, nameBytes}
 use Rattle.names.specs.Words.{bytesAt, shownNames, shownBytes, partShown, nameThere, nameShown}
 use Rattle.names.specs.declared.NameLimits.{NameLimits}
 use Rattle.names.specs.declared.NameCounts.{NameCounts}
-use Rattle.model.specs.Doc.{Doc}
 use Rattle.model.specs.RulesTest.{allSlots, allLive, countsWithin, wordsWithin, oneRoot, countsAndFieldsHold}
 use Rattle.memory.specs.declared.layout.Document.{Document}
-use Rattle.memory.specs.Layout.{limitsOf, textsAt, textsWords, namesAt, namesWords, documentWords, memoryOk}
-use Rattle.memory.specs.Decode.{textLimits, textCounts, nameLimits, nameCounts, textsPart, namesPart, poolIn, namesIn, shownBelow, lengthsAdd, decode}
+use Rattle.memory.specs.Layout.{limitsOf, textsAt, textsWords, namesAt, namesWords, memoryOk}
+use Rattle.memory.specs.Decode.{textLimits, textCounts, nameLimits, nameCounts, textsPart, namesPart, poolIn, namesIn, shownBelow, textsAdd, namesAdd, lengthsAdd, decode}
 use Rattle.memory.proofs.Limits.{memory-long, names-next, words-next}
 use Rattle.entries.specs.Nodes.{decodeNodes}
 
 -- ---- a piece that is shown is as long as its length word says, and ends within the bytes used; another is empty
 
-module _ (at count used : ℕ) (w : List ℕ) where
-  part-short : (s n : ℕ) → length (part s n w) ≤ n
-  unfolding part
-  part-short s n = omega (arith, length-take n (drop s w))
+part-short : (w : List ℕ) (s n : ℕ) → length (part s n w) ≤ n
+unfolding part
+part-short w s n = omega (arith, length-take n (drop s w))
 
+module _ (at count used : ℕ) (w : List ℕ) where
   piece-short : (i : ℕ) → length (pieceOf at count used i w) ≤ placeOf count used i w .len
   unfolding pieceOf
-  piece-short i = part-short (at + placeOf count used i w .start) (placeOf count used i w .len)
+  piece-short i = part-short w (at + placeOf count used i w .start) (placeOf count used i w .len)
 
   piece-there : (i : ℕ) → inside count used i w ≡ true → length (pieceOf at count used i w) ≤ getD w i 0
   unfolding placeOf
@@ -65,27 +73,46 @@ module _ (at count used : ℕ) (w : List ℕ) where
   unfolding inside
   ends-within i e = leb-true (sum (take (suc i) w)) used (and-right (ltb i count) (leb (sum (take (suc i) w)) used) e)
 
-  -- ---- all texts
+-- ---- all texts: where no end falls, they lie one behind the other
 
+module _ (limits : TextLimits) (counts : TextCounts) (w : List ℕ) (n used : ℕ) (reach : endsReach 0 (take n w) used ≡ true) where
   abbrev shown : ℕ → List (List ℕ)
-  shown k = tabulate (λ s. pieceOf at count used s w) k
+  shown k = tabulate (λ s. textShown limits counts s w) k
 
-  pub texts-short : (k : ℕ) → k ≤ length w → (length (bytesOf (shown k)) ≤ sum (take k w)) × (length (bytesOf (shown k)) ≤ used)
-  texts-short zero h = (omega arith, omega arith)
-  texts-short (suc k) h = go (inside count used k w) refl (texts-short k (omega arith))
+  text-short : (i : ℕ) → length (textShown limits counts i w) ≤ placeShown limits counts i w .len
+  unfolding textShown
+  text-short i = part-short w (texts.bytesAt limits + placeShown limits counts i w .start) (placeShown limits counts i w .len)
+
+  rises : (i : ℕ) → i < n → i < length w → startOf w i ≤ getD w i 0
+  rises i b f =
+      omega (
+        arith,
+        ends-rise 0 used (take n w) reach i (omega (arith, length-take n w)),
+        start-taken n w i (omega arith),
+        getD-take n w i 0 b,
+      )
+
+  pub texts-short : (k : ℕ) → k ≤ n → k ≤ length w → (length (bytesOf (shown k)) ≤ startOf w k) × (length (bytesOf (shown k)) ≤ min (counts .bytes) (limits .bytes))
+  unfolding startOf lengthOf
+  texts-short zero h f = (omega arith, omega arith)
+  texts-short (suc k) h f = go (shown-either limits counts k w) (texts-short k (omega arith) (omega arith))
     where
-      go : (t : Bool) → inside count used k w ≡ t → (length (bytesOf (shown k)) ≤ sum (take k w)) × (length (bytesOf (shown k)) ≤ used)
-          → (length (bytesOf (shown (suc k))) ≤ sum (take (suc k) w)) × (length (bytesOf (shown (suc k))) ≤ used)
-      go true e ih =
-          let a = length-joined-snoc (λ (t : List ℕ). t) (shown k) (pieceOf at count used k w) in
-          let b = sum-take-suc w k (omega arith) in
-          let c = piece-there k e in
-          let d = ends-within k e in
+      go : (placeShown limits counts k w ≡ record { start = startOf w k; len = lengthOf w k }) ⊎ (placeShown limits counts k w ≡ record { start = 0; len = 0 })
+          → (length (bytesOf (shown k)) ≤ startOf w k) × (length (bytesOf (shown k)) ≤ min (counts .bytes) (limits .bytes))
+          → (length (bytesOf (shown (suc k))) ≤ startOf w (suc k)) × (length (bytesOf (shown (suc k))) ≤ min (counts .bytes) (limits .bytes))
+      go (inl e) ih =
+          let a = length-joined-snoc (λ (t : List ℕ). t) (shown k) (textShown limits counts k w) in
+          let b = rises k (omega arith) (omega arith) in
+          let c = text-short k in
+          let g = shown-fits limits counts k w in
+          let p = ap (λ (q : Place). q .start) e in
+          let q = ap (λ (q : Place). q .len) e in
           (omega (arith, ih .0), omega (arith, ih .0))
-      go false e ih =
-          let a = length-joined-snoc (λ (t : List ℕ). t) (shown k) (pieceOf at count used k w) in
-          let b = sum-take-suc w k (omega arith) in
-          let c = piece-none k e in
+      go (inr e) ih =
+          let a = length-joined-snoc (λ (t : List ℕ). t) (shown k) (textShown limits counts k w) in
+          let b = rises k (omega arith) (omega arith) in
+          let c = text-short k in
+          let q = ap (λ (q : Place). q .len) e in
           (omega (arith, ih .0), omega (arith, ih .1))
 
 -- ---- all names
@@ -171,19 +198,28 @@ module _ (d : Document) (mem : List ℕ) (ok : memoryOk d (length mem) ≡ true)
       let l = limitsOf (d .limits) in
       length-part mem (namesAt l) (namesWords l) (omega (arith, memory-long d (length mem) ok, words-next l))
 
-  pub counts-decoded : countsWithin (decode d mem) ≡ countsWithin (decodeNodes d mem)
-  unfolding countsWithin texts.textShown
-  counts-decoded =
-      let slots = min (d .counts .texts) (d .limits .texts) in
-      let used = min (d .counts .textbytes) (d .limits .textbytes) in
+  abbrev slots : ℕ
+  slots = min (d .counts .texts) (d .limits .texts)
+
+  texts-fit : lengthsAdd d mem ≡ true → length (bytesOf (poolIn d mem .texts)) ≤ d .limits .textbytes
+  unfolding lengthsAdd
+  texts-fit h =
+      let reach = and-left (textsAdd d mem) (namesAdd d mem) h in
+      omega (
+        arith,
+        texts-short (textLimits d) (textCounts d) (textsPart d mem) (d .counts .texts) (d .counts .textbytes) reach slots (omega arith) (omega (arith, length-textsPart)) .1,
+      )
+
+  pub counts-decoded : lengthsAdd d mem ≡ true → countsWithin (decode d mem) ≡ countsWithin (decodeNodes d mem)
+  unfolding countsWithin
+  counts-decoded h =
       let n = min (d .counts .names) (d .limits .names) in
-      let a = length-tabulate (λ s. texts.textShown (textLimits d) (textCounts d) s (textsPart d mem)) slots in
-      let b = texts-short (d .limits .texts + d .limits .texts) slots used (textsPart d mem) slots (omega (arith, length-textsPart)) in
+      let a = length-tabulate (λ s. textShown (textLimits d) (textCounts d) s (textsPart d mem)) slots in
       let c = names-few (λ i. nameShown (nameLimits d) (nameCounts d) i (namesPart d mem)) n in
       let e = names-short (nameLimits d) (nameCounts d) (namesPart d mem) n (omega (arith, length-namesPart)) in
       rw (
         le-leb (length (poolIn d mem .texts)) (d .limits .texts) (omega arith),
-        le-leb (length (bytesOf (poolIn d mem .texts))) (d .limits .textbytes) (omega (arith, b .1)),
+        le-leb (length (bytesOf (poolIn d mem .texts))) (d .limits .textbytes) (texts-fit h),
         le-leb (length (namesIn d mem)) (d .limits .names) (omega arith),
         le-leb (length (joined nameBytes (namesIn d mem))) (d .limits .namebytes) (omega (arith, e .1)),
         le-leb 0 (d .limits .texts) (omega arith),
@@ -192,6 +228,6 @@ module _ (d : Document) (mem : List ℕ) (ok : memoryOk d (length mem) ≡ true)
         le-leb 0 (d .limits .namebytes) (omega arith),
       )
 
-  pub fields-decoded : countsAndFieldsHold (decode d mem) ≡ countsAndFieldsHold (decodeNodes d mem)
+  pub fields-decoded : lengthsAdd d mem ≡ true → countsAndFieldsHold (decode d mem) ≡ countsAndFieldsHold (decodeNodes d mem)
   unfolding countsAndFieldsHold wordsWithin oneRoot allSlots allLive
-  fields-decoded = ap (λ (t : Bool). t && wordsWithin (decodeNodes d mem) && oneRoot (decodeNodes d mem)) counts-decoded
+  fields-decoded h = ap (λ (t : Bool). t && wordsWithin (decodeNodes d mem) && oneRoot (decodeNodes d mem)) (counts-decoded h)

@@ -1,7 +1,7 @@
--- The rules together: the order in which they are tested, and that all but rule 8 read neither texts nor names.
+-- The rules together: the order in which they are tested, and that all but rule 8 read neither texts nor names where the lengths add up.
 -- Assumes nothing.
 use mathlib.Core.Path.{_≡_, refl, sym, ap, ap₂, _∙_}
-use mathlib.Core.Bool.{Bool, true, false, not, _&&_, and-false, and-comm}
+use mathlib.Core.Bool.{Bool, true, false, not, _&&_, and-comm, and-false}
 use mathlib.Core.Option.{Option, none, some}
 use mathlib.Core.List.{List}
 use Prim.Native.Nat.{ℕ, zero, suc, _≤_}
@@ -17,7 +17,7 @@ use Rattle.model.specs.RulesTest.{implies, allOption, allSlots, allLive, counts
 use Rattle.model.proofs.RulesTestFields.{fields-of-test}
 use Rattle.memory.specs.declared.layout.Document.{Document}
 use Rattle.memory.specs.Layout.{limitsOf, scratchWords, memoryOk, buffersOk}
-use Rattle.memory.specs.Decode.{countsWithin, slotsMade, decode}
+use Rattle.memory.specs.Decode.{countsWithin, slotsMade, lengthsAdd, decode}
 use Rattle.entries.specs.Nodes.{decodeNodes}
 use Rattle.structure.specs.Tests.{nodeRulesHold}
 use Rattle.structure.proofs.Lists.{not-true, not-false, ended, decided}
@@ -32,9 +32,10 @@ slots-inside d mem scratch h =
 
 -- ---- the order of the tests
 
-regrouped : (p q r s t : Bool) → (p && (r && t) && (q && s)) ≡ (p && q && r && s && t)
+regrouped : (p q r s t : Bool) → (p && r && (q && t && s)) ≡ (p && q && r && s && t)
 regrouped false q r s t = refl
-regrouped true false r s t = and-false (r && t)
+regrouped true false true s t = refl
+regrouped true false false s t = refl
 regrouped true true false s t = refl
 regrouped true true true s t = and-comm t s
 
@@ -55,23 +56,19 @@ module _ (D : Doc) (slots : Bool) (e : slots ≡ (countsAndFieldsHold D && freeL
     pub parents-there : parentsHold D ≡ true
     parents-there = and-right (countsAndFieldsHold D && freeListHolds D) (parentsHold D) slots-hold
 
-    module _ (arenas : Bool) (f : arenas ≡ (blocksHold D && oneRootElementHolds D)) where
-      pub arenas-broken : not arenas ≡ true → false ≡ nodeRulesHold D
+    module _ (blocks : Bool) (f : blocks ≡ blocksHold D) where
+      pub blocks-broken : not blocks ≡ true → false ≡ nodeRulesHold D
       unfolding nodeRulesHold
-      arenas-broken p =
+      blocks-broken p =
           sym (sym (regrouped (countsAndFieldsHold D && freeListHolds D && parentsHold D) (entriesHold D) (blocksHold D) (parentsEndHolds D) (oneRootElementHolds D))
-          ∙ rw (slots-hold, ← f, not-true arenas p))
+          ∙ rw (slots-hold, ← f, not-true blocks p))
 
-      module _ (p : not arenas ≡ false) where
-        pub blocks-there : blocksHold D ≡ true
-        blocks-there = and-left (blocksHold D) (oneRootElementHolds D) (sym f ∙ not-false arenas p)
-
-        pub links-decide : (r : Bool) → r ≡ (entriesHold D && parentsEndHolds D) → r ≡ nodeRulesHold D
-        unfolding nodeRulesHold
-        links-decide r g =
-            g
-            ∙ sym (sym (regrouped (countsAndFieldsHold D && freeListHolds D && parentsHold D) (entriesHold D) (blocksHold D) (parentsEndHolds D) (oneRootElementHolds D))
-            ∙ rw (slots-hold, ← f, not-false arenas p))
+      pub links-decide : not blocks ≡ false → (r : Bool) → r ≡ (entriesHold D && oneRootElementHolds D && parentsEndHolds D) → r ≡ nodeRulesHold D
+      unfolding nodeRulesHold
+      links-decide p r g =
+          g
+          ∙ sym (sym (regrouped (countsAndFieldsHold D && freeListHolds D && parentsHold D) (entriesHold D) (blocksHold D) (parentsEndHolds D) (oneRootElementHolds D))
+          ∙ rw (slots-hold, ← f, not-false blocks p))
 
 -- ---- with texts and names
 
@@ -120,29 +117,46 @@ module _ (d : Document) (mem : List ℕ) (ok : memoryOk d (length mem) ≡ true)
   unfolding oneRootElementHolds
   root-decoded = refl
 
-  nodes-decoded : nodeRulesHold (decodeNodes d mem) ≡ nodeRulesHold (decode d mem)
+  -- where the lengths add up; where they do not, rule 8 is broken
+  nodes-decoded : lengthsAdd d mem ≡ true → nodeRulesHold (decodeNodes d mem) ≡ nodeRulesHold (decode d mem)
   unfolding nodeRulesHold
-  nodes-decoded =
+  nodes-decoded h =
       ap₂ _&&_
-      (ap₂ _&&_ (ap₂ _&&_ (ap₂ _&&_ (ap₂ _&&_ (ap₂ _&&_ (sym (fields-decoded d mem ok)) free-decoded) parents-decoded) entries-decoded) blocks-decoded) ends-decoded)
+      (ap₂ _&&_ (ap₂ _&&_ (ap₂ _&&_ (ap₂ _&&_ (ap₂ _&&_ (sym (fields-decoded d mem ok h)) free-decoded) parents-decoded) entries-decoded) blocks-decoded) ends-decoded)
       root-decoded
+
+  no-lengths : lengthsAdd d mem ≡ false → textsHold (decode d mem) ≡ false
+  unfolding textsHold
+  no-lengths h = rw h
 
   module _ (nodes : Bool) (e : nodes ≡ nodeRulesHold (decodeNodes d mem)) where
     pub rules-broken : not nodes ≡ true → false ≡ rulesHold (decode d mem)
     unfolding rulesHold nodeRulesHold
-    rules-broken q = ended (nodeRulesHold (decode d mem)) (textsHold (decode d mem)) nodes true (e ∙ nodes-decoded) q
+    rules-broken q = go (lengthsAdd d mem) refl
+      where
+        go : (a : Bool) → lengthsAdd d mem ≡ a → false ≡ (nodeRulesHold (decode d mem) && textsHold (decode d mem))
+        go true h = ended (nodeRulesHold (decode d mem)) (textsHold (decode d mem)) nodes true (e ∙ nodes-decoded h) q
+        go false h = sym (ap (λ (t : Bool). nodeRulesHold (decode d mem) && t) (no-lengths h) ∙ and-false (nodeRulesHold (decode d mem)))
 
     pub texts-decide : not nodes ≡ false → (r : Bool) → r ≡ textsHold (decode d mem) → r ≡ rulesHold (decode d mem)
     unfolding rulesHold nodeRulesHold
-    texts-decide q r f = decided (nodeRulesHold (decode d mem)) (textsHold (decode d mem)) nodes r (e ∙ nodes-decoded) q f
+    texts-decide q r f = go (lengthsAdd d mem) refl
+      where
+        go : (a : Bool) → lengthsAdd d mem ≡ a → r ≡ (nodeRulesHold (decode d mem) && textsHold (decode d mem))
+        go true h = decided (nodeRulesHold (decode d mem)) (textsHold (decode d mem)) nodes r (e ∙ nodes-decoded h) q f
+        go false h =
+            f ∙ no-lengths h ∙ sym (ap (λ (t : Bool). nodeRulesHold (decode d mem) && t) (no-lengths h) ∙ and-false (nodeRulesHold (decode d mem)))
 
     -- what rule 8 relies on
-    pub counts-there : not nodes ≡ false → countsWithin (limitsOf (d .limits)) (d .counts) ≡ true
+    pub fields-kept : not nodes ≡ false → countsAndFieldsHold (decodeNodes d mem) ≡ true
     unfolding nodeRulesHold
-    counts-there q = fields-of-test (decodeNodes d mem) (go (sym e ∙ not-false nodes q)) .counts
+    fields-kept q = go (sym e ∙ not-false nodes q)
       where
         go : nodeRulesHold (decodeNodes d mem) ≡ true → countsAndFieldsHold (decodeNodes d mem) ≡ true
         go h = search and-left depth 8
+
+    pub counts-there : not nodes ≡ false → countsWithin (limitsOf (d .limits)) (d .counts) ≡ true
+    counts-there q = fields-of-test (decodeNodes d mem) (fields-kept q) .counts
 
 -- scratch has a word for each text slot
 pub texts-inside : (d : Document) (mem scratch : ℕ) → buffersOk d mem scratch ≡ true → d .limits .texts ≤ scratch

@@ -1,14 +1,14 @@
 -- What is tested of one slot, one entry or one arena, where a rule's test names a test of all of them.
-use mathlib.Core.Bool.{Bool, _&&_}
-use mathlib.Core.Option.{Option, none, some}
+use mathlib.Core.Bool.{Bool, not, _&&_, _||_, cond}
+use mathlib.Core.Option.{none}
 use mathlib.Core.List.{List}
 use Prim.Native.Nat.{ℕ, _+_}
 use lib.ListN.{length, getD}
-use lib.Dec.{eqb}
+use lib.Dec.{eqb, leb}
 use Rattle.words.specs.Lists.{allBelow}
 use Rattle.blocks.specs.Claims.{allClaimable}
-use Rattle.model.specs.Kinds.{Kind, Which, children, sameWhich, isElement, isRoot, owns, whichOf}
-use Rattle.model.specs.Doc.{Doc, generationAt, liveSlot, resolves, kindIn, kindAt, parentIn, isNone, anyOption}
+use Rattle.model.specs.Kinds.{Which, isElement, isRoot}
+use Rattle.model.specs.Doc.{Doc, generationAt, liveSlot, kindIn, kindAt, parentIn, isNone, anyOption}
 use Rattle.model.specs.Rules.{blockIn}
 use Rattle.model.specs.RulesTest.{implies, fitsField, allWhich, allLive, countsAndFieldsHold, freeListHolds, parentHolds, parentsHold, entriesHold, blocksHold, parentsEndHolds, oneRootElementHolds}
 
@@ -38,10 +38,12 @@ onlyRoot D = allLive D (λ i. implies (isRoot (kindIn D i)) (eqb i 0))
 
 -- ---- rule 3
 
--- the parent of a node of this kind
-abbrev pub parentFits : Doc → Kind ℕ (Option ℕ) → Option ℕ → Bool
-parentFits D k none = sameWhich (whichOf k) children
-parentFits D k (some p) = resolves D p && owns (whichOf k) (kindAt D p)
+-- of kinds by their numbers in the words: which stand among their parent's children, and which may own which
+unfoldable pub childNumber : ℕ → Bool
+childNumber kind = not (eqb kind 2 || eqb kind 5)
+
+unfoldable pub ownsNumber : ℕ → ℕ → Bool
+ownsNumber owner owned = cond (childNumber owned) (leb owner 1) (eqb owner 1)
 
 unfoldable pub parentTest : Doc → ℕ → Bool
 parentTest D i = implies (liveSlot D i) (parentHolds D i (parentIn D i))

@@ -9,10 +9,11 @@ ghost use Rattle.model.specs.Rules.{blockIn};
 ghost use Rattle.model.specs.RulesTest.{blocksHold};
 ghost use Rattle.memory.specs.Layout.{limitsOf, whichOf, memoryOk, buffersOk};
 ghost use Rattle.memory.specs.Decode.{blockOf, slotsMade, arenaUsed, arenaIn};
-ghost use Rattle.entries.specs.Nodes.{decodeNodes};
+ghost use Rattle.entries.specs.Nodes.{decodeNodes, wordsHold};
 ghost use Rattle.structure.specs.Scratch.{marksAt};
 ghost use Rattle.structure.specs.Tests.{claimsMet};
-use crate::node::live_node;
+use entries::nodes::block_of;
+use entries::nodes::is_live;
 use memory::layout::Arena;
 use memory::layout::Document;
 use memory::layout::Limits;
@@ -20,25 +21,23 @@ use memory::layout::arena_at;
 use memory::layout::arena_limit;
 use memory::read::arena_used;
 use memory::read::made;
-use memory::read::range_of;
-use slots::Loaded;
 use slots::Range;
 
 // The block of a slot: a live node's; a free slot has none.
 fn slot_block(d: Document, mem: &[u64], arena: Arena, s: usize) -> Range
-    requires { ⌜ (memoryOk d (length (now mem)) ≡ true) × (s < slotsMade d) ⌝ }
+    requires { ⌜ (memoryOk d (length (now mem)) ≡ true) × (s < slotsMade d) × (wordsHold d (now mem) ≡ true) ⌝ }
     ensures { λ r. ⌜ blockOf r ≡ blockIn (decodeNodes d (now (mem .entry))) (whichOf arena) s ⌝ }
 {
-    let found = live_node(d, mem, s);
-    match found {
-        Loaded::Found(node) => range_of(node, arena),
-        Loaded::NoNode => Range { start: 0, len: 0 },
+    if is_live(d, mem, s) {
+        block_of(d, mem, arena, s)
+    } else {
+        Range { start: 0, len: 0 }
     }
 }
 
 // A slot's block claims its entries, with its capacity. Marks has a word for each entry in use.
 fn claim_slot(d: Document, mem: &[u64], arena: Arena, s: usize, marks: &mut [u64]) -> bool
-    requires { ⌜ (memoryOk d (length (now mem)) ≡ true) × (s < slotsMade d) × (length (now marks) ≡ arenaUsed d (whichOf arena)) ⌝ }
+    requires { ⌜ (memoryOk d (length (now mem)) ≡ true) × (s < slotsMade d) × (length (now marks) ≡ arenaUsed d (whichOf arena)) × (wordsHold d (now mem) ≡ true) ⌝ }
     ensures { λ r. ⌜ r ≡ blockClaimable (arenaIn d (whichOf arena) (now (mem .entry))) (now (marks .entry)) (blockIn (decodeNodes d (now (mem .entry))) (whichOf arena) s) ⌝ }
     ensures { λ _. ⌜ now (marks .exit) ≡ blockClaimed (arenaIn d (whichOf arena) (now (mem .entry))) (now (marks .entry)) (blockIn (decodeNodes d (now (mem .entry))) (whichOf arena) s) ⌝ }
 {
@@ -53,7 +52,7 @@ fn claim_slot(d: Document, mem: &[u64], arena: Arena, s: usize, marks: &mut [u64
 
 // Whether the claims of all slots are met, one after another.
 fn claim_slots(d: Document, mem: &[u64], arena: Arena, marks: &mut [u64]) -> bool
-    requires { ⌜ (memoryOk d (length (now mem)) ≡ true) × (length (now marks) ≡ arenaUsed d (whichOf arena)) ⌝ }
+    requires { ⌜ (memoryOk d (length (now mem)) ≡ true) × (length (now marks) ≡ arenaUsed d (whichOf arena)) × (wordsHold d (now mem) ≡ true) ⌝ }
     ensures { λ r. ⌜ r ≡ allClaimable (arenaIn d (whichOf arena) (now (mem .entry))) (blockIn (decodeNodes d (now (mem .entry))) (whichOf arena)) (slotsMade d) ⌝ }
 {
     words::clear(marks);
@@ -83,7 +82,7 @@ fn marks_at(l: Limits, arena: Arena) -> usize
 
 // Whether the blocks of one arena lie as rule 5 says.
 fn check_arena(d: Document, mem: &[u64], arena: Arena, scratch: &mut [u64]) -> bool
-    requires { ⌜ buffersOk d (length (now mem)) (length (now scratch)) ≡ true ⌝ }
+    requires { ⌜ (buffersOk d (length (now mem)) (length (now scratch)) ≡ true) × (wordsHold d (now mem) ≡ true) ⌝ }
     ensures { λ r. ⌜ r ≡ claimsMet (decodeNodes d (now (mem .entry))) (whichOf arena) ⌝ }
 {
     let start = marks_at(d.limits, arena);
@@ -92,9 +91,9 @@ fn check_arena(d: Document, mem: &[u64], arena: Arena, scratch: &mut [u64]) -> b
     claim_slots(d, mem, arena, &mut scratch[start..end])
 }
 
-// Whether rule 5 holds.
+// Whether rule 5 holds, where rule 1 does of the words.
 pub fn check_blocks(d: Document, mem: &[u64], scratch: &mut [u64]) -> bool
-    requires { ⌜ buffersOk d (length (now mem)) (length (now scratch)) ≡ true ⌝ }
+    requires { ⌜ (buffersOk d (length (now mem)) (length (now scratch)) ≡ true) × (wordsHold d (now mem) ≡ true) ⌝ }
     ensures { λ r. ⌜ r ≡ blocksHold (decodeNodes d (now (mem .entry))) ⌝ }
 {
     if !check_arena(d, mem, Arena::Children, scratch) {

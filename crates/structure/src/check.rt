@@ -6,7 +6,7 @@ ghost use lib.ListN.{length, replicate};
 ghost use Rattle.model.specs.RulesTest.{countsAndFieldsHold, freeListHolds, parentsHold, entriesHold, blocksHold, parentsEndHolds, oneRootElementHolds, textsHold, rulesHold};
 ghost use Rattle.memory.specs.Layout.{limitsOf, memoryOk, buffersOk};
 ghost use Rattle.memory.specs.Decode.{countsWithin, slotsMade, decode};
-ghost use Rattle.entries.specs.Nodes.{decodeNodes};
+ghost use Rattle.entries.specs.Nodes.{decodeNodes, wordsHold};
 ghost use Rattle.structure.specs.Tests.{nodeRulesHold};
 use crate::arenas::check_blocks;
 use crate::fields::check_fields;
@@ -34,20 +34,9 @@ fn check_slots(d: Document, mem: &[u64], scratch: &mut [u64]) -> bool
     check_parents(d, mem)
 }
 
-// Rules 5 and 7, which read the arenas, where rule 1 holds.
-fn check_arenas(d: Document, mem: &[u64], scratch: &mut [u64]) -> bool
-    requires { ⌜ (buffersOk d (length (now mem)) (length (now scratch)) ≡ true) × (countsAndFieldsHold (decodeNodes d (now mem)) ≡ true) ⌝ }
-    ensures { λ r. ⌜ r ≡ (blocksHold (decodeNodes d (now (mem .entry))) && oneRootElementHolds (decodeNodes d (now (mem .entry)))) ⌝ }
-{
-    if !check_blocks(d, mem, scratch) {
-        return false;
-    }
-    check_root_element(d, mem)
-}
-
-// Rule 4, where rules 3 and 5 hold. Marks has a word for each slot made.
+// Rule 4, where rules 3 and 5 hold, and rule 1 of the words. Marks has a word for each slot made.
 fn check_listed(d: Document, mem: &[u64], marks: &mut [u64]) -> bool
-    requires { ⌜ (memoryOk d (length (now mem)) ≡ true) × (parentsHold (decodeNodes d (now mem)) ≡ true) × (blocksHold (decodeNodes d (now mem)) ≡ true) ⌝ }
+    requires { ⌜ (memoryOk d (length (now mem)) ≡ true) × (parentsHold (decodeNodes d (now mem)) ≡ true) × (blocksHold (decodeNodes d (now mem)) ≡ true) × (wordsHold d (now mem) ≡ true) ⌝ }
     requires { ⌜ slotsMade d ≤ length (now marks) ⌝ }
     ensures { λ r. ⌜ r ≡ entriesHold (decodeNodes d (now (mem .entry))) ⌝ }
 {
@@ -55,9 +44,9 @@ fn check_listed(d: Document, mem: &[u64], marks: &mut [u64]) -> bool
     check_entries(d, mem, marks)
 }
 
-// Rule 6, where rule 3 holds. Marks has a word for each slot made.
+// Rule 6, where rule 3 holds, and rule 1 of the words. Marks has a word for each slot made.
 fn check_ends(d: Document, mem: &[u64], marks: &mut [u64]) -> bool
-    requires { ⌜ (memoryOk d (length (now mem)) ≡ true) × (parentsHold (decodeNodes d (now mem)) ≡ true) ⌝ }
+    requires { ⌜ (memoryOk d (length (now mem)) ≡ true) × (parentsHold (decodeNodes d (now mem)) ≡ true) × (wordsHold d (now mem) ≡ true) ⌝ }
     requires { ⌜ slotsMade d ≤ length (now marks) ⌝ }
     ensures { λ r. ⌜ r ≡ parentsEndHolds (decodeNodes d (now (mem .entry))) ⌝ }
 {
@@ -65,13 +54,16 @@ fn check_ends(d: Document, mem: &[u64], marks: &mut [u64]) -> bool
     check_paths(d, mem, marks)
 }
 
-// Rules 4 and 6, which follow the links between nodes, where rules 3 and 5 hold.
+// Rules 4, 7 and 6, which follow the links between nodes, where rules 1, 3 and 5 hold.
 fn check_links(d: Document, mem: &[u64], scratch: &mut [u64]) -> bool
-    requires { ⌜ (buffersOk d (length (now mem)) (length (now scratch)) ≡ true) × (parentsHold (decodeNodes d (now mem)) ≡ true) × (blocksHold (decodeNodes d (now mem)) ≡ true) ⌝ }
-    ensures { λ r. ⌜ r ≡ (entriesHold (decodeNodes d (now (mem .entry))) && parentsEndHolds (decodeNodes d (now (mem .entry)))) ⌝ }
+    requires { ⌜ (buffersOk d (length (now mem)) (length (now scratch)) ≡ true) × (parentsHold (decodeNodes d (now mem)) ≡ true) × (blocksHold (decodeNodes d (now mem)) ≡ true) × (countsAndFieldsHold (decodeNodes d (now mem)) ≡ true) ⌝ }
+    ensures { λ r. ⌜ r ≡ (entriesHold (decodeNodes d (now (mem .entry))) && oneRootElementHolds (decodeNodes d (now (mem .entry))) && parentsEndHolds (decodeNodes d (now (mem .entry)))) ⌝ }
 {
     let count = made(d);
     if !check_listed(d, mem, &mut scratch[0..count]) {
+        return false;
+    }
+    if !check_root_element(d, mem) {
         return false;
     }
     check_ends(d, mem, &mut scratch[0..count])
@@ -85,7 +77,7 @@ fn check_nodes(d: Document, mem: &[u64], scratch: &mut [u64]) -> bool
     if !check_slots(d, mem, scratch) {
         return false;
     }
-    if !check_arenas(d, mem, scratch) {
+    if !check_blocks(d, mem, scratch) {
         return false;
     }
     check_links(d, mem, scratch)
@@ -93,7 +85,7 @@ fn check_nodes(d: Document, mem: &[u64], scratch: &mut [u64]) -> bool
 
 // Rule 8, where rule 1 holds. Marks has a word for each text slot that the limit allows.
 fn check_pool(d: Document, mem: &[u64], marks: &mut [u64]) -> bool
-    requires { ⌜ (memoryOk d (length (now mem)) ≡ true) × (countsWithin (limitsOf (d .limits)) (d .counts) ≡ true) ⌝ }
+    requires { ⌜ (memoryOk d (length (now mem)) ≡ true) × (countsWithin (limitsOf (d .limits)) (d .counts) ≡ true) × (wordsHold d (now mem) ≡ true) ⌝ }
     requires { ⌜ d .limits .texts ≤ length (now marks) ⌝ }
     ensures { λ r. ⌜ r ≡ textsHold (decode d (now (mem .entry))) ⌝ }
 {

@@ -5,14 +5,15 @@ ghost use Prim.Native.Nat.{_<_};
 ghost use lib.ListN.{length};
 ghost use Rattle.slots.specs.WordsRule.{wordsRule};
 ghost use Rattle.model.specs.Kinds.{isRoot};
-ghost use Rattle.model.specs.Doc.{isNone};
-ghost use Rattle.model.specs.RulesTest.{wordsWithin, oneRoot, countsAndFieldsHold};
+ghost use Rattle.model.specs.Doc.{liveSlot, kindIn, parentIn, isNone};
+ghost use Rattle.model.specs.RulesTest.{countsAndFieldsHold};
 ghost use Rattle.memory.specs.Layout.{limitsOf, whichOf, memoryOk};
-ghost use Rattle.memory.specs.Decode.{kindOf, handleOf, countsWithin, slotsPart, slotsMade};
-ghost use Rattle.entries.specs.Nodes.{decodeNodes};
+ghost use Rattle.memory.specs.Decode.{countsWithin, slotsPart, slotsMade};
+ghost use Rattle.entries.specs.Nodes.{decodeNodes, wordsHold};
 ghost use Rattle.structure.specs.Tests.{capacitiesFit, arenasFit, rootStands, rootTest, onlyRoot};
-use crate::node::is_root;
-use crate::node::live_node;
+use entries::nodes::is_live;
+use entries::nodes::kind_of;
+use entries::nodes::parent_of;
 use memory::layout::Arena;
 use memory::layout::Counts;
 use memory::layout::Document;
@@ -21,10 +22,7 @@ use memory::layout::arena_at;
 use memory::layout::arena_limit;
 use memory::read::arena_used;
 use memory::read::generation;
-use memory::read::load;
 use memory::read::made;
-use slots::Loaded;
-use slots::Node;
 use slots::NodeSlot;
 use slots::Parent;
 
@@ -86,57 +84,52 @@ fn arenas_fit(d: Document, mem: &[u64]) -> bool
     both(both(children, attributes), namespaces)
 }
 
-// A Root without a parent.
-fn is_top(node: Node) -> bool
-    ensures { λ r. ⌜ r ≡ (isRoot (kindOf (node .«data»)) && isNone (handleOf (node .parent))) ⌝ }
+// Whether slot 0, which is live, is a Root without a parent.
+fn is_top(d: Document, mem: &[u64]) -> bool
+    requires { ⌜ (memoryOk d (length (now mem)) ≡ true) × (liveSlot (decodeNodes d (now mem)) 0 ≡ true) ⌝ }
+    ensures { λ r. ⌜ r ≡ (isRoot (kindIn (decodeNodes d (now (mem .entry))) 0) && isNone (parentIn (decodeNodes d (now (mem .entry))) 0)) ⌝ }
 {
-    let data = node.data;
-    let parent = node.parent;
+    if kind_of(d, mem, 0) != 0 {
+        return false;
+    }
+    let parent = parent_of(d, mem, 0);
     match parent {
-        Parent::None => is_root(data),
+        Parent::None => true,
         Parent::Of(_) => false,
     }
 }
 
 // Whether slot 0 is a live Root of generation 0 without a parent.
 fn root_stands(d: Document, mem: &[u64]) -> bool
-    requires { ⌜ memoryOk d (length (now mem)) ≡ true ⌝ }
+    requires { ⌜ (memoryOk d (length (now mem)) ≡ true) × (wordsHold d (now mem) ≡ true) ⌝ }
     ensures { λ r. ⌜ r ≡ rootStands (decodeNodes d (now (mem .entry))) ⌝ }
 {
     if made(d) == 0 {
         return false;
     }
-    let slot = NodeSlot(0);
-    if generation(d, mem, slot) != 0 {
+    if generation(d, mem, NodeSlot(0)) != 0 {
         return false;
     }
-    let found = load(d, mem, slot);
-    match found {
-        Loaded::Found(node) => is_top(node),
-        Loaded::NoNode => false,
-    }
+    is_top(d, mem)
 }
 
 // A live Root stands in slot 0.
 fn slot_root(d: Document, mem: &[u64], s: usize) -> bool
-    requires { ⌜ (memoryOk d (length (now mem)) ≡ true) × (s < slotsMade d) ⌝ }
+    requires { ⌜ (memoryOk d (length (now mem)) ≡ true) × (s < slotsMade d) × (wordsHold d (now mem) ≡ true) ⌝ }
     ensures { λ r. ⌜ r ≡ rootTest (decodeNodes d (now (mem .entry))) s ⌝ }
 {
     if s == 0 {
         return true;
     }
-    let found = live_node(d, mem, s);
-    match found {
-        Loaded::Found(node) => {
-            let data = node.data;
-            !is_root(data)
-        }
-        Loaded::NoNode => true,
+    if is_live(d, mem, s) {
+        kind_of(d, mem, s) != 0
+    } else {
+        true
     }
 }
 
 fn only_root(d: Document, mem: &[u64]) -> bool
-    requires { ⌜ memoryOk d (length (now mem)) ≡ true ⌝ }
+    requires { ⌜ (memoryOk d (length (now mem)) ≡ true) × (wordsHold d (now mem) ≡ true) ⌝ }
     ensures { λ r. ⌜ r ≡ onlyRoot (decodeNodes d (now (mem .entry))) ⌝ }
 {
     let count = made(d);
@@ -155,8 +148,10 @@ pub fn check_fields(d: Document, mem: &[u64]) -> bool
     requires { ⌜ memoryOk d (length (now mem)) ≡ true ⌝ }
     ensures { λ r. ⌜ r ≡ countsAndFieldsHold (decodeNodes d (now (mem .entry))) ⌝ }
 {
-    let counts = counts_within(d.limits, d.counts);
-    let words = both(slots_fit(d, mem), arenas_fit(d, mem));
+    if !slots_fit(d, mem) {
+        return false;
+    }
+    let counts = both(counts_within(d.limits, d.counts), arenas_fit(d, mem));
     let root = both(root_stands(d, mem), only_root(d, mem));
-    both(both(counts, words), root)
+    both(counts, root)
 }

@@ -1,60 +1,64 @@
 // Rule 3: "Attributes and namespaces have a live element as parent. Others have a live Root or element, or none (detached)."
 ghost use mathlib.Core.Path.{_≡_};
-ghost use mathlib.Core.Bool.{true};
+ghost use mathlib.Core.Bool.{true, _&&_};
 ghost use Prim.Native.Nat.{_<_};
 ghost use lib.ListN.{length};
-ghost use Rattle.slots.specs.Fields.{ParentFits};
-ghost use Rattle.model.specs.RulesTest.{parentsHold};
+ghost use Rattle.model.specs.Doc.{liveSlot, resolves, kindAt, parentIn};
+ghost use Rattle.model.specs.RulesTest.{parentHolds, parentsHold};
 ghost use Rattle.memory.specs.Layout.{memoryOk};
-ghost use Rattle.memory.specs.Decode.{kindOf, handleOf, slotsMade};
-ghost use Rattle.entries.specs.Nodes.{decodeNodes};
-ghost use Rattle.structure.specs.Tests.{parentFits, parentTest};
+ghost use Rattle.memory.specs.Decode.{slotsMade};
+ghost use Rattle.entries.specs.Nodes.{decodeNodes, wordsHold, kindNumber};
+ghost use Rattle.structure.specs.Tests.{ownsNumber, parentTest};
 use crate::node::is_child;
-use crate::node::live_node;
 use crate::node::may_own;
+use entries::nodes::is_current;
+use entries::nodes::is_live;
+use entries::nodes::kind_of;
+use entries::nodes::parent_of;
 use memory::layout::Document;
 use memory::read::made;
-use memory::read::resolve;
-use slots::Loaded;
-use slots::Node;
 use slots::Parent;
 
-// Whether a node's parent, or that it has none, fits its kind.
-fn parent_fits(d: Document, mem: &[u64], node: Node) -> bool
-    requires { ⌜ (memoryOk d (length (now mem)) ≡ true) × ParentFits (node .parent) ⌝ }
-    ensures { λ r. ⌜ r ≡ parentFits (decodeNodes d (now (mem .entry))) (kindOf (node .«data»)) (handleOf (node .parent)) ⌝ }
+// Whether a handle resolves, to a node that may be the parent of one of this kind.
+fn owner_fits(d: Document, mem: &[u64], handle: u64, kind: u64) -> bool
+    requires { ⌜ (memoryOk d (length (now mem)) ≡ true) × (wordsHold d (now mem) ≡ true) ⌝ }
+    ensures { λ r. ⌜ r ≡ (resolves (decodeNodes d (now (mem .entry))) handle && ownsNumber (kindNumber (kindAt (decodeNodes d (now (mem .entry))) handle)) kind) ⌝ }
 {
-    let data = node.data;
-    let parent = node.parent;
+    if is_current(d, mem, handle) {
+        let owner = kind_of(d, mem, (handle % 4294967296) as usize);
+        may_own(owner, kind)
+    } else {
+        false
+    }
+}
+
+// Whether a live slot's parent, or that it has none, fits its kind.
+fn parent_fits(d: Document, mem: &[u64], s: usize) -> bool
+    requires { ⌜ (memoryOk d (length (now mem)) ≡ true) × (wordsHold d (now mem) ≡ true) × (liveSlot (decodeNodes d (now mem)) s ≡ true) ⌝ }
+    ensures { λ r. ⌜ r ≡ parentHolds (decodeNodes d (now (mem .entry))) s (parentIn (decodeNodes d (now (mem .entry))) s) ⌝ }
+{
+    let kind = kind_of(d, mem, s);
+    let parent = parent_of(d, mem, s);
     match parent {
-        Parent::None => is_child(data),
-        Parent::Of(id) => {
-            let owner = resolve(d, mem, id);
-            match owner {
-                Loaded::Found(holder) => {
-                    let container = holder.data;
-                    may_own(container, data)
-                }
-                Loaded::NoNode => false,
-            }
-        }
+        Parent::None => is_child(kind),
+        Parent::Of(id) => owner_fits(d, mem, slots::handle::word_of(id), kind),
     }
 }
 
 fn slot_parent(d: Document, mem: &[u64], s: usize) -> bool
-    requires { ⌜ (memoryOk d (length (now mem)) ≡ true) × (s < slotsMade d) ⌝ }
+    requires { ⌜ (memoryOk d (length (now mem)) ≡ true) × (s < slotsMade d) × (wordsHold d (now mem) ≡ true) ⌝ }
     ensures { λ r. ⌜ r ≡ parentTest (decodeNodes d (now (mem .entry))) s ⌝ }
 {
-    let found = live_node(d, mem, s);
-    match found {
-        Loaded::Found(node) => parent_fits(d, mem, node),
-        Loaded::NoNode => true,
+    if is_live(d, mem, s) {
+        parent_fits(d, mem, s)
+    } else {
+        true
     }
 }
 
-// Whether rule 3 holds.
+// Whether rule 3 holds, where rule 1 does of the words.
 pub fn check_parents(d: Document, mem: &[u64]) -> bool
-    requires { ⌜ memoryOk d (length (now mem)) ≡ true ⌝ }
+    requires { ⌜ (memoryOk d (length (now mem)) ≡ true) × (wordsHold d (now mem) ≡ true) ⌝ }
     ensures { λ r. ⌜ r ≡ parentsHold (decodeNodes d (now (mem .entry))) ⌝ }
 {
     let count = made(d);

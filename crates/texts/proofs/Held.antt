@@ -8,25 +8,27 @@ use Prim.Native.Nat.{ℕ, suc, _+_, _-_, _≤_, _<_}
 use native.Mathlib.Numerals.{add-one}
 use native.Mathlib.Omega.{arith}
 use lib.ListN.{length, getD, set, take, length-set}
-use lib.Seq.{take-set-le, take-suc-set, getD-set-same}
+use lib.Seq.{take-suc-set}
 use lib.Dec.{eqb, leb}
 use borrow.Author.Tests.{leb-true}
 use Rattle.words.specs.Parts.{part, put}
-use Rattle.words.specs.Lists.{sum, countOf}
+use Rattle.words.specs.Lists.{countOf}
 use Rattle.words.specs.Pieces.{pieces}
 use Rattle.words.proofs.Tests.{and-left, and-right}
-use Rattle.words.proofs.Parts.{part-none, part-snoc, put-nil, length-put, take-put-before, part-put-same, part-put-before}
-use Rattle.words.proofs.Lengths.{sum-append, pieces-same, pieces-append}
-use Rattle.texts.specs.Pool.{Pool, replaced, released}
+use Rattle.words.proofs.Parts.{part-none, part-snoc, length-put, take-put-before, part-put-same, part-put-before}
+use Rattle.words.proofs.Lengths.{pieces-same, pieces-append}
+use Rattle.texts.specs.Pool.{Pool, replaced}
 use Rattle.texts.specs.Rule.{FreeTexts}
-use Rattle.texts.specs.Words.{bytesAt, poolOf, Counted, PoolHeld, countsFit, startAt, roomed, rewritten, StoredTo, ReplacedTo, ReleasedTo}
+use Rattle.texts.specs.Ends.{startOf, lengthOf, lengthsOf, endsReach}
+use Rattle.texts.specs.Words.{bytesAt, poolOf, Counted, PoolHeld, countsFit, rewritten, StoredTo, ReplacedTo}
 use Rattle.texts.specs.declared.TextLimits.{TextLimits}
 use Rattle.texts.specs.declared.TextCounts.{TextCounts}
 use Rattle.texts.specs.declared.edits.TextField.the-variants.{Nothing, Slot}
 use Rattle.texts.proofs.Lists.{reverse-snoc}
 use Rattle.texts.proofs.Pool.{first-there, stored-empty, stored-new, stored-reused, storedSlot-new, storedSlot-reused}
-use Rattle.texts.proofs.Words.{pool-slots, text-ends, text-length}
-use Rattle.texts.proofs.Written.{part-set-before, part-set-after, size-written, stack-written, texts-written, sums-written, written-in-place}
+use Rattle.texts.proofs.Ends.{lengths-snoc, reach-snoc}
+use Rattle.texts.proofs.Words.{lengths-add, pool-slots, text-ends, text-length}
+use Rattle.texts.proofs.Written.{part-set-before, size-written, stack-written, texts-written, reach-written, written-in-place}
 
 -- what a call was told to fit, fits
 pub told : (limits : TextLimits) (counts : TextCounts) (k off on : ℕ) → countsFit limits counts k off on ≡ true
@@ -46,19 +48,19 @@ held-after limits counts after p h e f = record { counted = h; texts = rw e f }
 module _ (limits : TextLimits) (counts : TextCounts) (words : List ℕ) (h : Counted limits counts words) (slot : ℕ) (m : slot < counts .slots) where
   -- ---- replace_text
 
-  module _ (t : List ℕ) (f : counts .bytes + length t ≤ limits .bytes + getD words slot 0) where
+  module _ (t : List ℕ) (f : counts .bytes + length t ≤ limits .bytes + lengthOf words slot) where
     abbrev replacedCounts : TextCounts
-    replacedCounts = record { slots = counts .slots; free = counts .free; bytes = counts .bytes - getD words slot 0 + length t }
+    replacedCounts = record { slots = counts .slots; free = counts .free; bytes = counts .bytes - lengthOf words slot + length t }
 
-    replaced-counted : (n : ℕ) → n ≤ counts .free → Counted limits (record { slots = counts .slots; free = n; bytes = counts .bytes - getD words slot 0 + length t }) (rewritten limits counts words slot t)
+    replaced-counted : (n : ℕ) → n ≤ counts .free → Counted limits (record { slots = counts .slots; free = n; bytes = counts .bytes - lengthOf words slot + length t }) (rewritten limits counts words slot t)
     replaced-counted n g =
-        let e : sum (take slot words) + getD words slot 0 ≤ counts .bytes = text-ends limits counts words h slot m in
+        let e : startOf words slot + lengthOf words slot ≤ counts .bytes = text-ends limits counts words h slot m in
         record {
           size = size-written limits counts words h slot m t f ∙ h .size;
           slots = h .slots;
           free = omega (arith, h .free);
           bytes = omega arith;
-          sums = omega (arith, sums-written limits counts words h slot m t f);
+          ends = reach-written limits counts words h slot m t f;
         }
 
     -- the pool after, with the n lowest entries of the stack
@@ -73,73 +75,11 @@ module _ (limits : TextLimits) (counts : TextCounts) (words : List ℕ) (h : Cou
 
     replaced-pool : poolOf limits replacedCounts (rewritten limits counts words slot t) ≡ replaced (poolOf limits counts words) (some slot) t
     unfolding poolOf replaced
-    replaced-pool = reused-pool (counts .free) (h .free) (counts .bytes - getD words slot 0 + length t)
+    replaced-pool = reused-pool (counts .free) (h .free) (counts .bytes - lengthOf words slot + length t)
 
     pub replaced-to : (after : List ℕ) → after ≡ rewritten limits counts words slot t → ReplacedTo limits counts words after slot t replacedCounts
     replaced-to after e =
         rw e (record { pool = replaced-pool; counted = replaced-counted (counts .free) (omega arith); inPlace = λ q. written-in-place limits counts words h slot m t f q })
-
-  -- ---- release_text
-
-  module _ (g : counts .free < limits .slots) where
-    abbrev freed : List ℕ
-    freed = rewritten limits counts words slot []
-
-    fits : counts .bytes + length {A = ℕ} [] ≤ limits .bytes + getD words slot 0
-    fits = omega (arith, h .bytes)
-
-    abbrev pushed : List ℕ
-    pushed = set (rewritten limits counts words slot []) (limits .slots + counts .free) slot
-
-    size-freed : length freed ≡ length words
-    size-freed = size-written limits counts words h slot m [] fits
-
-    abbrev releasedCounts : TextCounts
-    releasedCounts = record { slots = counts .slots; free = counts .free + 1; bytes = counts .bytes - getD words slot 0 }
-
-    lengths-pushed : take (counts .slots) pushed ≡ take (counts .slots) freed
-    lengths-pushed = take-set-le (counts .slots) freed (limits .slots + counts .free) slot (omega (arith, h .slots))
-
-    stack-pushed : part (limits .slots) (counts .free + 1) pushed ≡ part (limits .slots) (counts .free) words ++ (slot ∷ [])
-    stack-pushed =
-        let i : limits .slots + counts .free < length freed = omega (arith, h .size, size-freed) in
-        ap (λ (n : ℕ). part (limits .slots) n pushed) (add-one (counts .free))
-        ∙ part-snoc pushed (limits .slots) (counts .free) 0 (rw (length-set freed (limits .slots + counts .free) slot) i)
-        ∙ ap (λ (x : ℕ). part (limits .slots) (counts .free) pushed ++ (x ∷ [])) (getD-set-same freed (limits .slots + counts .free) slot 0 i)
-        ∙ ap (λ (l : List ℕ). l ++ (slot ∷ []))
-        (part-set-after freed (limits .slots) (counts .free) (limits .slots + counts .free) slot (omega arith)
-        ∙ stack-written limits counts words h slot m [] fits (counts .free) (h .free))
-
-    texts-pushed : pieces (bytesAt limits) (take (counts .slots) pushed) pushed ≡ set (pieces (bytesAt limits) (take (counts .slots) words) words) slot []
-    texts-pushed =
-        ap (λ (l : List ℕ). pieces (bytesAt limits) l pushed) lengths-pushed
-        ∙ pieces-same (bytesAt limits) (bytesAt limits) (take (counts .slots) freed) pushed freed
-        (part-set-before freed (bytesAt limits) (sum (take (counts .slots) freed)) (limits .slots + counts .free) slot (omega arith))
-        ∙ texts-written limits counts words h slot m [] fits
-
-    released-pool : poolOf limits releasedCounts pushed ≡ released (poolOf limits counts words) (some slot)
-    unfolding poolOf released
-    released-pool =
-        let p = texts-pushed in
-        let q = ap reverse stack-pushed ∙ reverse-snoc (part (limits .slots) (counts .free) words) slot in
-        λ i. record { texts = p i; free = q i }
-
-    released-counted : Counted limits releasedCounts pushed
-    released-counted =
-        let e : sum (take slot words) + getD words slot 0 ≤ counts .bytes = text-ends limits counts words h slot m in
-        record {
-          size = length-set freed (limits .slots + counts .free) slot ∙ size-freed ∙ h .size;
-          slots = h .slots;
-          free = omega arith;
-          bytes = omega (arith, h .bytes);
-          sums = ap sum lengths-pushed ∙ omega (arith, sums-written limits counts words h slot m [] fits);
-        }
-
-    pub released-to : (roomy after : List ℕ) → roomy ≡ roomed limits counts words slot 0 → after ≡ set roomy (limits .slots + counts .free) slot
-        → ReleasedTo limits counts words after slot releasedCounts
-    released-to roomy after e q =
-        let z : after ≡ pushed = q ∙ ap (λ (l : List ℕ). set l (limits .slots + counts .free) slot) (e ∙ sym (put-nil (roomed limits counts words slot 0) (startAt limits words slot) [])) in
-        rw z (record { pool = released-pool; counted = released-counted })
 
 -- ---- store_text
 
@@ -169,7 +109,7 @@ module _ (limits : TextLimits) (counts : TextCounts) (words : List ℕ) (held : 
     top-made = omega (arith, held .texts .inside top top-there, pool-slots limits counts words (held .counted))
 
     -- its length is 0
-    pub top-empty : getD words top 0 ≡ 0
+    pub top-empty : lengthOf words top ≡ 0
     top-empty = sym (text-length limits counts words (held .counted) top top-made) ∙ ap length (held .texts .empty top top-there)
 
     abbrev reusedCounts : ℕ → TextCounts
@@ -186,14 +126,21 @@ module _ (limits : TextLimits) (counts : TextCounts) (words : List ℕ) (held : 
           counted = counted-after;
         })
       where
-        fits : counts .bytes + length (b ∷ t) ≤ limits .bytes + getD words top 0
+        fits : counts .bytes + length (b ∷ t) ≤ limits .bytes + lengthOf words top
         fits = omega arith
 
         counted-after : Counted limits (reusedCounts (length (b ∷ t))) (rewritten limits counts words top (b ∷ t))
         counted-after =
-            let w : Counted limits (record { slots = counts .slots; free = counts .free - 1; bytes = counts .bytes - getD words top 0 + length (b ∷ t) }) (rewritten limits counts words top (b ∷ t)) =
+            let w : Counted limits (record { slots = counts .slots; free = counts .free - 1; bytes = counts .bytes - lengthOf words top + length (b ∷ t) }) (rewritten limits counts words top (b ∷ t)) =
             replaced-counted limits counts words (held .counted) top top-made (b ∷ t) fits (counts .free - 1) (omega arith) in
-            record { size = w .size; slots = w .slots; free = w .free; bytes = f; sums = omega (arith, w .sums, top-empty) }
+            let e : counts .bytes + length (b ∷ t) ≡ counts .bytes - lengthOf words top + length (b ∷ t) = omega (arith, top-empty) in
+            record {
+              size = w .size;
+              slots = w .slots;
+              free = w .free;
+              bytes = f;
+              ends = ap (endsReach 0 (take (counts .slots) (rewritten limits counts words top (b ∷ t)))) e ∙ w .ends;
+            }
 
         pool-after : poolOf limits (reusedCounts (length (b ∷ t))) (rewritten limits counts words top (b ∷ t))
             ≡ record { texts = set (poolOf limits counts words .texts) top (b ∷ t); free = reverse (part (limits .slots) (counts .free - 1) words) }
@@ -210,38 +157,45 @@ module _ (limits : TextLimits) (counts : TextCounts) (words : List ℕ) (held : 
     newCounts n = record { slots = counts .slots + 1; free = 0; bytes = counts .bytes + n }
 
     abbrev laid : List ℕ → List ℕ
-    laid t = put (bytesAt limits + counts .bytes) t (set words (counts .slots) (length t))
+    laid t = put (bytesAt limits + counts .bytes) t (set words (counts .slots) (counts .bytes + length t))
 
     module _ (t : List ℕ) (f : counts .bytes + length t ≤ limits .bytes) where
-      size-set : length (set words (counts .slots) (length t)) ≡ length words
-      size-set = length-set words (counts .slots) (length t)
+      size-set : length (set words (counts .slots) (counts .bytes + length t)) ≡ length words
+      size-set = length-set words (counts .slots) (counts .bytes + length t)
 
-      lengths-laid : take (counts .slots + 1) (laid t) ≡ take (counts .slots) words ++ (length t ∷ [])
-      lengths-laid =
+      ends-laid : take (counts .slots + 1) (laid t) ≡ take (counts .slots) words ++ ((counts .bytes + length t) ∷ [])
+      ends-laid =
           let h : Counted limits counts words = held .counted in
-          take-put-before (set words (counts .slots) (length t)) (bytesAt limits + counts .bytes) t (counts .slots + 1) (omega arith) (omega (arith, h .size, size-set))
-          ∙ ap (λ (n : ℕ). take n (set words (counts .slots) (length t))) (add-one (counts .slots))
-          ∙ take-suc-set words (counts .slots) (length t) (omega (arith, h .size))
+          take-put-before (set words (counts .slots) (counts .bytes + length t)) (bytesAt limits + counts .bytes) t (counts .slots + 1) (omega arith) (omega (arith, h .size, size-set))
+          ∙ ap (λ (n : ℕ). take n (set words (counts .slots) (counts .bytes + length t))) (add-one (counts .slots))
+          ∙ take-suc-set words (counts .slots) (counts .bytes + length t) (omega (arith, h .size))
+
+      lengths-laid : lengthsOf (take (counts .slots + 1) (laid t)) ≡ lengthsOf (take (counts .slots) words) ++ (length t ∷ [])
+      lengths-laid =
+          let e : counts .bytes + length t - counts .bytes ≡ length t = omega arith in
+          ap lengthsOf ends-laid
+          ∙ lengths-snoc 0 (counts .bytes) (take (counts .slots) words) (held .counted .ends) (counts .bytes + length t)
+          ∙ ap (λ (n : ℕ). lengthsOf (take (counts .slots) words) ++ (n ∷ [])) e
 
       old-laid : part (bytesAt limits) (counts .bytes) (laid t) ≡ part (bytesAt limits) (counts .bytes) words
       old-laid =
           let h : Counted limits counts words = held .counted in
-          part-put-before (set words (counts .slots) (length t)) (bytesAt limits + counts .bytes) t (bytesAt limits) (counts .bytes) (omega arith) (omega (arith, h .size, size-set))
-          ∙ part-set-before words (bytesAt limits) (counts .bytes) (counts .slots) (length t) (omega arith)
+          part-put-before (set words (counts .slots) (counts .bytes + length t)) (bytesAt limits + counts .bytes) t (bytesAt limits) (counts .bytes) (omega arith) (omega (arith, h .size, size-set))
+          ∙ part-set-before words (bytesAt limits) (counts .bytes) (counts .slots) (counts .bytes + length t) (omega arith)
 
       new-laid : part (bytesAt limits + counts .bytes) (length t) (laid t) ≡ t
       new-laid =
           let h : Counted limits counts words = held .counted in
-          part-put-same (set words (counts .slots) (length t)) (bytesAt limits + counts .bytes) t (omega (arith, h .size, size-set))
+          part-put-same (set words (counts .slots) (counts .bytes + length t)) (bytesAt limits + counts .bytes) t (omega (arith, h .size, size-set))
 
-      texts-laid : pieces (bytesAt limits) (take (counts .slots + 1) (laid t)) (laid t) ≡ pieces (bytesAt limits) (take (counts .slots) words) words ++ (t ∷ [])
+      texts-laid : pieces (bytesAt limits) (lengthsOf (take (counts .slots + 1) (laid t))) (laid t) ≡ pieces (bytesAt limits) (lengthsOf (take (counts .slots) words)) words ++ (t ∷ [])
       texts-laid =
-          let h : Counted limits counts words = held .counted in
+          let sums = lengths-add limits counts words (held .counted) in
           ap (λ (l : List ℕ). pieces (bytesAt limits) l (laid t)) lengths-laid
-          ∙ pieces-append (bytesAt limits) (take (counts .slots) words) (length t ∷ []) (laid t)
+          ∙ pieces-append (bytesAt limits) (lengthsOf (take (counts .slots) words)) (length t ∷ []) (laid t)
           ∙ rw (
-            pieces-same (bytesAt limits) (bytesAt limits) (take (counts .slots) words) (laid t) words (rw (h .sums) old-laid),
-            h .sums,
+            pieces-same (bytesAt limits) (bytesAt limits) (lengthsOf (take (counts .slots) words)) (laid t) words (rw sums old-laid),
+            sums,
             new-laid,
           )
 
@@ -249,11 +203,13 @@ module _ (limits : TextLimits) (counts : TextCounts) (words : List ℕ) (held : 
       counted-laid =
           let h : Counted limits counts words = held .counted in
           record {
-            size = length-put (set words (counts .slots) (length t)) (bytesAt limits + counts .bytes) t (omega (arith, h .size, size-set)) ∙ size-set ∙ h .size;
+            size = length-put (set words (counts .slots) (counts .bytes + length t)) (bytesAt limits + counts .bytes) t (omega (arith, h .size, size-set)) ∙ size-set ∙ h .size;
             slots = omega arith;
             free = omega arith;
             bytes = f;
-            sums = ap sum lengths-laid ∙ omega (arith, sum-append (take (counts .slots) words) (length t ∷ []), h .sums);
+            ends =
+                ap (λ (l : List ℕ). endsReach 0 l (counts .bytes + length t)) ends-laid
+                ∙ reach-snoc 0 (counts .bytes) (take (counts .slots) words) (h .ends) (counts .bytes + length t) (omega arith);
           }
 
       pool-laid : poolOf limits (newCounts (length t)) (laid t) ≡ record { texts = poolOf limits counts words .texts ++ (t ∷ []); free = [] }

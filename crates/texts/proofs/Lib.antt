@@ -1,6 +1,11 @@
+pub mod Ends
+pub mod Places
 pub mod Pool
 pub mod Rule
 pub mod Lists
 pub mod Words
 pub mod Written
 pub mod Held
+pub mod Laid
+pub mod Gaps
+pub mod Released

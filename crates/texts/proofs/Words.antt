@@ -1,27 +1,29 @@
 -- Between the words of a text pool and the pool: what the counts say, what is read, Full, and the test of rules 1 and 8.
 -- Assumes nothing.
-use mathlib.Core.Path.{_≡_, refl, sym, ap, _∙_}
+use mathlib.Core.Path.{_≡_, sym, ap, _∙_}
 use mathlib.Core.Bool.{Bool, true, false, _&&_, and-true, and-false}
 use mathlib.Core.Option.{some}
-use mathlib.Core.List.{List, []}
-use Prim.Native.Nat.{ℕ, suc, _+_, _-_, _≤_, _<_, min}
+use mathlib.Core.List.{List, [], _∷_}
+use Prim.Native.Nat.{ℕ, _+_, _-_, _≤_, _<_, min}
 use native.Mathlib.Decide.{decLt}
 use native.Mathlib.Omega.{arith}
 use lib.ListN.{length, getD, take, length-reverse, List·getD-eq-default}
-use lib.Seq.{length-take-le, take-take, getD-take}
+use lib.Seq.{length-take-le, getD-take}
 use lib.Dec.{eqb, ltb, leb}
-use borrow.Author.Tests.{le-leb, lt-leb, leb-true, lt-ltb, ltb-true, eqb-true, eq-eqb, ne-eqb}
+use borrow.Author.Tests.{le-leb, lt-leb, leb-true, lt-ltb, ltb-true, eqb-true, eq-eqb}
 use Rattle.words.specs.Parts.{part}
 use Rattle.words.specs.Lists.{sum, all, countOf}
-use Rattle.words.specs.Pieces.{placeOf}
 use Rattle.words.proofs.Tests.{and-left, and-right, and-both, leb-same}
 use Rattle.words.proofs.Parts.{part-none, length-part}
-use Rattle.words.proofs.Lengths.{sum-take-suc, sum-take-le, length-pieces, joined-pieces, getD-pieces, place-within, piece-there, piece-number}
+use Rattle.words.proofs.Lengths.{length-pieces, joined-pieces, getD-pieces}
 use Rattle.texts.specs.Pool.{bytesOf, textAt, textsFit}
 use Rattle.texts.specs.Rule.{FreeTexts}
-use Rattle.texts.specs.Words.{bytesAt, poolOf, Counted, PoolHeld, freeOk, poolOk, textShown, countsFit}
+use Rattle.texts.specs.Ends.{startOf, lengthOf, lengthsOf, endsReach}
+use Rattle.texts.specs.Words.{bytesAt, poolOf, Counted, PoolHeld, freeOk, poolOk, placeShown, textShown, countsFit}
 use Rattle.texts.specs.declared.TextLimits.{TextLimits}
 use Rattle.texts.specs.declared.TextCounts.{TextCounts}
+use Rattle.texts.proofs.Ends.{length-lengths, lengths-at, lengths-sum, lengths-start, ends-rise, ends-within, start-taken}
+use Rattle.texts.proofs.Places.{place-there, shown-at, shown-empty}
 use Rattle.texts.proofs.Lists.{all-count, count-all, countOf-reverse}
 
 -- ---- Full
@@ -46,12 +48,21 @@ module _ (limits : TextLimits) (counts : TextCounts) (k off on : ℕ) (s : count
 -- ---- the counts are those of the pool
 
 module _ (limits : TextLimits) (counts : TextCounts) (words : List ℕ) (h : Counted limits counts words) where
-  lengths-taken : length (take (counts .slots) words) ≡ counts .slots
-  lengths-taken = length-take-le (counts .slots) words (omega (arith, h .size))
+  abbrev ends : List ℕ
+  ends = take (counts .slots) words
+
+  ends-taken : length ends ≡ counts .slots
+  ends-taken = length-take-le (counts .slots) words (omega (arith, h .size))
+
+  pub lengths-taken : length (lengthsOf (take (counts .slots) words)) ≡ counts .slots
+  lengths-taken = length-lengths 0 ends ∙ ends-taken
+
+  pub lengths-add : sum (lengthsOf (take (counts .slots) words)) ≡ counts .bytes
+  lengths-add = omega (arith, lengths-sum 0 (counts .bytes) ends (h .ends))
 
   pub pool-slots : length (poolOf limits counts words .texts) ≡ counts .slots
   unfolding poolOf
-  pool-slots = length-pieces (bytesAt limits) (take (counts .slots) words) words ∙ lengths-taken
+  pool-slots = length-pieces (bytesAt limits) (lengthsOf ends) words ∙ lengths-taken
 
   pub pool-free : length (poolOf limits counts words .free) ≡ counts .free
   unfolding poolOf
@@ -60,9 +71,9 @@ module _ (limits : TextLimits) (counts : TextCounts) (words : List ℕ) (h : Cou
   pub pool-bytes : length (bytesOf (poolOf limits counts words .texts)) ≡ counts .bytes
   unfolding poolOf
   pool-bytes =
-      ap length (joined-pieces (bytesAt limits) (take (counts .slots) words) words)
-      ∙ length-part words (bytesAt limits) (sum (take (counts .slots) words)) (omega (arith, h .size, h .sums))
-      ∙ h .sums
+      ap length (joined-pieces (bytesAt limits) (lengthsOf ends) words)
+      ∙ length-part words (bytesAt limits) (sum (lengthsOf ends)) (omega (arith, h .size, lengths-add))
+      ∙ lengths-add
 
   pub fits-pool : (k off on : ℕ) → countsFit limits counts k off on ≡ textsFit (limits .slots) (limits .bytes) (poolOf limits counts words) k off on
   unfolding countsFit textsFit
@@ -71,40 +82,61 @@ module _ (limits : TextLimits) (counts : TextCounts) (words : List ℕ) (h : Cou
   -- ---- what is read
 
   module _ (slot : ℕ) (m : slot < counts .slots) where
-    -- the text of a slot is where the lengths say
-    pub pool-text : textAt (poolOf limits counts words) (some slot) ≡ part (bytesAt limits + sum (take slot words)) (getD words slot 0) words
-    unfolding poolOf
-    pool-text =
-        getD-pieces (bytesAt limits) (take (counts .slots) words) words slot (rw lengths-taken m)
-        ∙ rw (take-take slot (counts .slots) words (omega arith), getD-take (counts .slots) words slot 0 m)
+    -- the end and the length of a slot's text
+    pub end-taken : getD (take (counts .slots) words) slot 0 ≡ getD words slot 0
+    end-taken = getD-take (counts .slots) words slot 0 m
+
+    pub length-said : getD (take (counts .slots) words) slot 0 - getD (0 ∷ take (counts .slots) words) slot 0 ≡ lengthOf words slot
+    unfolding lengthOf
+    length-said = rw (end-taken, start-taken (counts .slots) words slot (omega arith))
+
+    pub length-taken : getD (lengthsOf (take (counts .slots) words)) slot 0 ≡ lengthOf words slot
+    length-taken = lengths-at 0 ends slot (omega (arith, ends-taken)) ∙ length-said
+
+    -- it begins behind the lengths before
+    pub start-added : sum (take slot (lengthsOf (take (counts .slots) words))) ≡ startOf words slot
+    start-added =
+        omega (arith, lengths-start 0 (counts .bytes) ends (h .ends) slot (omega (arith, ends-taken)), start-taken (counts .slots) words slot (omega arith))
 
     -- and ends among the bytes used
-    pub text-ends : sum (take slot words) + getD words slot 0 ≤ counts .bytes
-    text-ends = omega (arith, sum-take-suc words slot (omega (arith, h .size)), sum-take-le words (suc slot) (counts .slots) m, h .sums)
+    pub text-rises : startOf words slot ≤ getD words slot 0
+    text-rises = omega (arith, ends-rise 0 (counts .bytes) ends (h .ends) slot (omega (arith, ends-taken)), start-taken (counts .slots) words slot (omega arith), end-taken)
 
-    pub text-length : length (textAt (poolOf limits counts words) (some slot)) ≡ getD words slot 0
-    text-length = ap length pool-text ∙ length-part words (bytesAt limits + sum (take slot words)) (getD words slot 0) (omega (arith, h .size, text-ends))
+    pub text-within : getD words slot 0 ≤ counts .bytes
+    text-within = omega (arith, ends-within 0 (counts .bytes) ends (h .ends) .1 slot (omega (arith, ends-taken)) .1, end-taken)
 
-  -- where it is shown to lie
-  pub shown-place : (slot : ℕ) → slot < counts .slots
-      → placeOf (min (counts .slots) (limits .slots)) (min (counts .bytes) (limits .bytes)) slot words ≡ record { start = sum (take slot words); len = getD words slot 0 }
-  shown-place slot m =
-      let a : min (counts .slots) (limits .slots) ≡ counts .slots = omega (arith, h .slots) in
-      let b : min (counts .bytes) (limits .bytes) ≡ counts .bytes = omega (arith, h .bytes) in
-      rw (a, b) (place-within (counts .slots) (counts .bytes) slot words m (omega (arith, sum-take-suc words slot (omega (arith, h .size)), text-ends slot m)))
+    pub text-end : startOf words slot + lengthOf words slot ≡ getD words slot 0
+    unfolding lengthOf
+    text-end = omega (arith, text-rises)
+
+    pub text-ends : startOf words slot + lengthOf words slot ≤ counts .bytes
+    text-ends = omega (arith, text-end, text-within)
+
+    -- the text of a slot is where the ends say
+    pub pool-text : textAt (poolOf limits counts words) (some slot) ≡ part (bytesAt limits + startOf words slot) (lengthOf words slot) words
+    unfolding poolOf
+    pool-text =
+        getD-pieces (bytesAt limits) (lengthsOf ends) words slot (rw lengths-taken m)
+        ∙ rw (start-added, length-taken)
+
+    pub text-length : length (textAt (poolOf limits counts words) (some slot)) ≡ lengthOf words slot
+    text-length = ap length pool-text ∙ length-part words (bytesAt limits + startOf words slot) (lengthOf words slot) (omega (arith, h .size, text-ends))
+
+    -- where it is shown to lie
+    pub shown-place : placeShown limits counts slot words ≡ record { start = startOf words slot; len = lengthOf words slot }
+    unfolding placeShown
+    shown-place =
+        let a : min (counts .slots) (limits .slots) ≡ counts .slots = omega (arith, h .slots) in
+        let b : min (counts .bytes) (limits .bytes) ≡ counts .bytes = omega (arith, h .bytes) in
+        rw (a, b) (place-there (counts .slots) (counts .bytes) slot words m text-rises text-within)
 
   pub shown-text : (slot : ℕ) → textShown limits counts slot words ≡ textAt (poolOf limits counts words) (some slot)
-  unfolding textShown
   shown-text slot = go (decLt slot (counts .slots))
     where
       go : Dec (slot < counts .slots) → textShown limits counts slot words ≡ textAt (poolOf limits counts words) (some slot)
-      go (yes m) =
-          let a : min (counts .slots) (limits .slots) ≡ counts .slots = omega (arith, h .slots) in
-          let b : min (counts .bytes) (limits .bytes) ≡ counts .bytes = omega (arith, h .bytes) in
-          let e : sum (take (suc slot) words) ≤ counts .bytes = omega (arith, sum-take-suc words slot (omega (arith, h .size)), text-ends slot m) in
-          rw (a, b) (piece-there (counts .slots) (counts .bytes) slot words (bytesAt limits) m e) ∙ sym (pool-text slot m)
+      go (yes m) = shown-at limits counts slot words (record { start = startOf words slot; len = lengthOf words slot }) (shown-place slot m) ∙ sym (pool-text slot m)
       go (no m) =
-          piece-number (min (counts .slots) (limits .slots)) (min (counts .bytes) (limits .bytes)) slot words (bytesAt limits) (omega arith)
+          shown-empty limits counts slot words (omega arith)
           ∙ sym (List·getD-eq-default (poolOf limits counts words .texts) [] {n = slot} (omega (arith, pool-slots)))
 
 -- ---- the test is the rule
@@ -125,27 +157,16 @@ module _ (limits : TextLimits) (counts : TextCounts) (words : List ℕ) where
       bytes-over h = rw (le-leb (counts .slots) (limits .slots) a, le-leb (counts .free) (limits .slots) b, lt-leb (counts .bytes) (limits .bytes) h)
 
       module _ (d : counts .bytes ≤ limits .bytes) where
-        pub sums-differ : (r : ℕ) → r ≡ min (sum (take (counts .slots) words)) (counts .bytes + 1) → (r ≡ counts .bytes → ⊥) → false ≡ poolOk limits counts words
+        pub ends-differ : endsReach 0 (take (counts .slots) words) (counts .bytes) ≡ false → false ≡ poolOk limits counts words
         unfolding poolOk
-        sums-differ r e h =
-            rw (
-              le-leb (counts .slots) (limits .slots) a,
-              le-leb (counts .free) (limits .slots) b,
-              le-leb (counts .bytes) (limits .bytes) d,
-              ne-eqb (sum (take (counts .slots) words)) (counts .bytes) (λ q. h (omega arith)),
-            )
+        ends-differ e =
+            rw (le-leb (counts .slots) (limits .slots) a, le-leb (counts .free) (limits .slots) b, le-leb (counts .bytes) (limits .bytes) d, e)
 
-        pub sums-same : (r : ℕ) (t : Bool) → r ≡ min (sum (take (counts .slots) words)) (counts .bytes + 1) → r ≡ counts .bytes
+        pub ends-same : endsReach 0 (take (counts .slots) words) (counts .bytes) ≡ true → (t : Bool)
             → t ≡ all (freeOk (counts .slots) words) (part (limits .slots) (counts .free) words) → t ≡ poolOk limits counts words
         unfolding poolOk
-        sums-same r t e h q =
-            rw (
-              le-leb (counts .slots) (limits .slots) a,
-              le-leb (counts .free) (limits .slots) b,
-              le-leb (counts .bytes) (limits .bytes) d,
-              eq-eqb (sum (take (counts .slots) words)) (counts .bytes) (omega arith),
-            )
-            q
+        ends-same e t q =
+            rw (le-leb (counts .slots) (limits .slots) a, le-leb (counts .free) (limits .slots) b, le-leb (counts .bytes) (limits .bytes) d, e) q
 
   -- the free list's part
   module _ (h : Counted limits counts words) where
@@ -160,14 +181,15 @@ module _ (limits : TextLimits) (counts : TextCounts) (words : List ℕ) where
         good s k = all-count (freeOk (counts .slots) words) (part (limits .slots) (counts .free) words) s t (rw (free-there s) at k)
 
         made : (s : ℕ) → 0 < countOf (eqb s) (poolOf limits counts words .free) → s < counts .slots
-        made s k = ltb-true s (counts .slots) (and-left (ltb s (counts .slots)) (eqb (getD words s 0) 0) (good s k))
+        made s k = ltb-true s (counts .slots) (and-left (ltb s (counts .slots)) (eqb (getD words s 0) (startOf words s)) (good s k))
 
         without-bytes : (s : ℕ) → 0 < countOf (eqb s) (poolOf limits counts words .free) → getD (poolOf limits counts words .texts) s [] ≡ []
         without-bytes s k =
-            let z : getD words s 0 ≡ 0 = eqb-true (getD words s 0) 0 (and-right (ltb s (counts .slots)) (eqb (getD words s 0) 0) (good s k)) in
+            let e : getD words s 0 ≡ startOf words s = eqb-true (getD words s 0) (startOf words s) (and-right (ltb s (counts .slots)) (eqb (getD words s 0) (startOf words s)) (good s k)) in
+            let z : lengthOf words s ≡ 0 = omega (arith, text-end limits counts words h s (made s k)) in
             pool-text limits counts words h s (made s k)
-            ∙ ap (λ (n : ℕ). part (bytesAt limits + sum (take s words)) n words) z
-            ∙ part-none words (bytesAt limits + sum (take s words))
+            ∙ ap (λ (n : ℕ). part (bytesAt limits + startOf words s) n words) z
+            ∙ part-none words (bytesAt limits + startOf words s)
 
     pub free-ok : FreeTexts (poolOf limits counts words) → all (freeOk (counts .slots) words) (part (limits .slots) (counts .free) words) ≡ true
     free-ok f = count-all (freeOk (counts .slots) words) (part (limits .slots) (counts .free) words) (λ s k. good s (rw (free-there s) k))
@@ -175,8 +197,9 @@ module _ (limits : TextLimits) (counts : TextCounts) (words : List ℕ) where
         good : (s : ℕ) → 0 < countOf (eqb s) (poolOf limits counts words .free) → freeOk (counts .slots) words s ≡ true
         good s k =
             let m : s < counts .slots = rw (pool-slots limits counts words h) at (f .inside s k) in
-            let z : getD words s 0 ≡ 0 = sym (text-length limits counts words h s m) ∙ ap length (f .empty s k) in
-            and-both (ltb s (counts .slots)) (eqb (getD words s 0) 0) (lt-ltb s (counts .slots) m) (eq-eqb (getD words s 0) 0 z)
+            let z : lengthOf words s ≡ 0 = sym (text-length limits counts words h s m) ∙ ap length (f .empty s k) in
+            and-both (ltb s (counts .slots)) (eqb (getD words s 0) (startOf words s)) (lt-ltb s (counts .slots) m)
+            (eq-eqb (getD words s 0) (startOf words s) (omega (arith, text-end limits counts words h s m)))
 
   pub ok-held : length words ≡ bytesAt limits + limits .bytes → poolOk limits counts words ≡ true → PoolHeld limits counts words
   unfolding poolOk
@@ -184,7 +207,7 @@ module _ (limits : TextLimits) (counts : TextCounts) (words : List ℕ) where
       let ta : Bool = leb (counts .slots) (limits .slots) in
       let tb : Bool = leb (counts .free) (limits .slots) in
       let td : Bool = leb (counts .bytes) (limits .bytes) in
-      let te : Bool = eqb (sum (take (counts .slots) words)) (counts .bytes) in
+      let te : Bool = endsReach 0 (take (counts .slots) words) (counts .bytes) in
       let tf : Bool = all (freeOk (counts .slots) words) (part (limits .slots) (counts .free) words) in
       let r₁ : (tb && (td && (te && tf))) ≡ true = and-right ta (tb && (td && (te && tf))) t in
       let r₂ : (td && (te && tf)) ≡ true = and-right tb (td && (te && tf)) r₁ in
@@ -195,11 +218,11 @@ module _ (limits : TextLimits) (counts : TextCounts) (words : List ℕ) where
         slots = leb-true (counts .slots) (limits .slots) (and-left ta (tb && (td && (te && tf))) t);
         free = leb-true (counts .free) (limits .slots) (and-left tb (td && (te && tf)) r₁);
         bytes = leb-true (counts .bytes) (limits .bytes) (and-left td (te && tf) r₂);
-        sums = eqb-true (sum (take (counts .slots) words)) (counts .bytes) (and-left te tf r₃);
+        ends = and-left te tf r₃;
       } in
       record { counted = h; texts = ok-free h (and-right te tf r₃) }
 
   pub held-ok : PoolHeld limits counts words → poolOk limits counts words ≡ true
   held-ok p =
       let h : Counted limits counts words = p .counted in
-      sym (sums-same (h .slots) (h .free) (h .bytes) (counts .bytes) true (omega (arith, h .sums)) refl (sym (free-ok h (p .texts))))
+      sym (ends-same (h .slots) (h .free) (h .bytes) (h .ends) true (sym (free-ok h (p .texts))))

@@ -1,3 +1,4 @@
+pub mod Ends
 pub mod Pool
 pub mod Rule
 pub mod Words

@@ -54,6 +54,19 @@ unfoldable pub released : Pool → Option ℕ → Pool
 released p none = p
 released p (some s) = record { texts = set (p .texts) s []; free = s ∷ p .free }
 
+-- The same in two parts, so that many texts are released in one pass over the bytes. A slot goes on the stack, and its text stays;
+unfoldable pub pushed : Pool → Option ℕ → Pool
+pushed p none = p
+pushed p (some s) = record { texts = p .texts; free = s ∷ p .free }
+
+abbrev pub emptied : List ℕ → List (List ℕ) → List (List ℕ)
+emptied [] ts = ts
+emptied (s ∷ l) ts = set (emptied l ts) s []
+
+-- then every text on the stack gets length 0.
+unfoldable pub reclaimed : Pool → Pool
+reclaimed p = record { texts = emptied (p .free) (p .texts); free = p .free }
+
 -- ---- what a call takes, asked before any write
 
 abbrev pub slotsFor : List ℕ → ℕ

@@ -1,12 +1,32 @@
 // What the pool alone can say of structure rules 1 and 8, and the marks for who counts owners.
 ghost use mathlib.Core.Path.{_≡_};
 ghost use Prim.Native.Nat.{_+_, _≤_};
-ghost use lib.ListN.{length};
+ghost use lib.ListN.{length, take};
 ghost use Rattle.words.specs.Parts.{part};
 ghost use Rattle.words.specs.Lists.{all};
+ghost use Rattle.texts.specs.Ends.{endsReach};
 ghost use Rattle.texts.specs.Words.{bytesAt, freeOk, poolOk, Markable, marked};
 use crate::TextCounts;
 use crate::TextLimits;
+use crate::text_start;
+
+// Whether none of n ends is below the one before, and the last is the number of bytes used.
+fn check_ends(words: &[u64], n: usize, used: usize) -> bool
+    requires { ⌜ n ≤ length (now words) ⌝ }
+    ensures { λ r. ⌜ r ≡ endsReach 0 (take n (now (words .entry))) used ⌝ }
+{
+    let mut last = 0;
+    let mut k = 0;
+    while k < n {
+        let end = words[k];
+        if end < last {
+            return false;
+        }
+        last = end;
+        k += 1;
+    }
+    last == used as u64
+}
 
 // Whether each entry of the stack is a slot that was made, of length 0.
 fn check_free(words: &[u64], limits: TextLimits, counts: TextCounts) -> bool
@@ -22,7 +42,8 @@ fn check_free(words: &[u64], limits: TextLimits, counts: TextCounts) -> bool
         if slot >= made as u64 {
             return false;
         }
-        if words[slot as usize] != 0 {
+        let start = text_start(words, slot as usize);
+        if words[slot as usize] != start {
             return false;
         }
         k += 1;
@@ -30,7 +51,7 @@ fn check_free(words: &[u64], limits: TextLimits, counts: TextCounts) -> bool
     true
 }
 
-// Whether the counts are within the limits, the lengths add to the bytes used, and the free slots are slots without bytes.
+// Whether the counts are within the limits, the ends reach the bytes used, and the free slots are slots without bytes.
 pub fn check_texts(words: &[u64], limits: TextLimits, counts: TextCounts) -> bool
     requires { ⌜ length (now words) ≡ bytesAt limits + limits .bytes ⌝ }
     ensures { λ r. ⌜ r ≡ poolOk limits counts (now (words .entry)) ⌝ }
@@ -46,7 +67,7 @@ pub fn check_texts(words: &[u64], limits: TextLimits, counts: TextCounts) -> boo
     if used > limits.bytes {
         return false;
     }
-    if words::pieces::bounded_sum(words, n, used) != used {
+    if !check_ends(words, n, used) {
         return false;
     }
     check_free(words, limits, counts)

@@ -1,13 +1,16 @@
-// Storing, replacing and releasing a text.
+// Storing and replacing a text.
 ghost use mathlib.Core.Path.{_≡_};
 ghost use mathlib.Core.Bool.{true};
 ghost use Prim.Native.Nat.{_+_, _≤_, _<_};
-ghost use lib.ListN.{length, getD};
+ghost use lib.ListN.{length};
 ghost use Rattle.words.specs.Parts.{part, put};
 ghost use Rattle.texts.specs.Pool.{slotsFor};
-ghost use Rattle.texts.specs.Words.{startAt, Counted, PoolHeld, countsFit, roomed, rewritten, StoredTo, ReplacedTo, ReleasedTo};
+ghost use Rattle.texts.specs.Ends.{lengthOf};
+ghost use Rattle.texts.specs.Words.{startAt, Counted, PoolHeld, countsFit, Movable, endsMoved, roomed, rewritten, StoredTo, ReplacedTo};
 use crate::TextCounts;
 use crate::TextLimits;
+use crate::text_start;
+use words::pieces::Place;
 
 // What a text field holds: nothing for a text stored empty.
 pub enum TextField {
@@ -22,7 +25,7 @@ pub struct Stored {
 }
 
 // Moves n words from index from to index to. Where they are there already, none is written.
-fn shift(words: &mut [u64], from: usize, n: usize, to: usize)
+pub fn shift(words: &mut [u64], from: usize, n: usize, to: usize)
     requires { ⌜ (from + n ≤ length (now words)) × (to + n ≤ length (now words)) ⌝ }
     ensures { λ _. ⌜ now (words .exit) ≡ put to (part from n (now (words .entry))) (now (words .entry)) ⌝ }
 {
@@ -35,33 +38,60 @@ fn shift(words: &mut [u64], from: usize, n: usize, to: usize)
     }
 }
 
-// Gives the text of a slot room for len bytes: the bytes behind it move, and its length is set. Answers where its bytes begin.
+// Moves n ends from a slot on, for a text that has len bytes in place of old.
+fn move_ends(words: &mut [u64], slot: usize, n: usize, old: usize, len: usize)
+    requires { ⌜ Movable (now words) slot n old len ⌝ }
+    ensures { λ _. ⌜ now (words .exit) ≡ endsMoved (now (words .entry)) slot n old len ⌝ }
+{
+    let mut k = 0;
+    while k < n {
+        words[slot + k] = words[slot + k] - old as u64 + len as u64;
+        k += 1;
+    }
+}
+
+// Gives the text of a slot room for len bytes: the bytes behind it move, and so do the ends from it on. Answers at which index its bytes begin, and how many
+// it had.
 fn make_room(
     words: &mut [u64],
     limits: TextLimits,
     counts: TextCounts,
     slot: usize,
     len: usize,
-) -> usize
-    requires { ⌜ Counted limits counts (now words) × (slot < counts .slots) × (counts .bytes + len ≤ limits .bytes + getD (now words) slot 0) ⌝ }
-    ensures { λ r. ⌜ (r ≡ startAt limits (now (words .entry)) slot) × (now (words .exit) ≡ roomed limits counts (now (words .entry)) slot len) ⌝ }
+) -> Place
+    requires { ⌜ Counted limits counts (now words) × (slot < counts .slots) × (counts .bytes + len ≤ limits .bytes + lengthOf (now words) slot) ⌝ }
+    ensures { λ r. ⌜ r ≡ record { start = startAt limits (now (words .entry)) slot; len = lengthOf (now (words .entry)) slot } ⌝ }
+    ensures { λ _. ⌜ now (words .exit) ≡ roomed limits counts (now (words .entry)) slot len ⌝ }
 {
     let used = counts.bytes;
-    let old = words[slot] as usize;
-    let start = words::pieces::bounded_sum(&words[..], slot, used);
+    let start = text_start(&words[..], slot) as usize;
+    let old = words[slot] as usize - start;
     let at = limits.slots + limits.slots + start;
-    shift(words, at + old, used - start - old, at + len);
-    words[slot] = len as u64;
-    at
+    if old != len {
+        shift(words, at + old, used - start - old, at + len);
+        move_ends(words, slot, counts.slots - slot, old, len);
+    }
+    Place {
+        start: at,
+        len: old,
+    }
 }
 
-// Writes a text in place of a slot's own.
-fn put_text(words: &mut [u64], limits: TextLimits, counts: TextCounts, slot: usize, text: &[u8])
-    requires { ⌜ Counted limits counts (now words) × (slot < counts .slots) × (counts .bytes + length (now text) ≤ limits .bytes + getD (now words) slot 0) ⌝ }
+// Writes a text in place of a slot's own. Answers how many bytes that had.
+fn put_text(
+    words: &mut [u64],
+    limits: TextLimits,
+    counts: TextCounts,
+    slot: usize,
+    text: &[u8],
+) -> usize
+    requires { ⌜ Counted limits counts (now words) × (slot < counts .slots) × (counts .bytes + length (now text) ≤ limits .bytes + lengthOf (now words) slot) ⌝ }
+    ensures { λ r. ⌜ r ≡ lengthOf (now (words .entry)) slot ⌝ }
     ensures { λ _. ⌜ now (words .exit) ≡ rewritten limits counts (now (words .entry)) slot (now (text .entry)) ⌝ }
 {
-    let at = make_room(words, limits, counts, slot, text.len());
-    words::pieces::write_bytes(words, at, text);
+    let room = make_room(words, limits, counts, slot, text.len());
+    words::pieces::write_bytes(words, room.start, text);
+    room.len
 }
 
 // Stores a text that is not empty in the last released slot.
@@ -87,11 +117,11 @@ fn new_slot(words: &mut [u64], limits: TextLimits, counts: TextCounts, text: &[u
 {
     let slot = counts.slots;
     let used = counts.bytes;
-    words[slot] = text.len() as u64;
+    let bytes = used + text.len();
+    words[slot] = bytes as u64;
     let at = limits.slots + limits.slots + used;
     words::pieces::write_bytes(words, at, text);
     let slots = slot + 1;
-    let bytes = used + text.len();
     Stored {
         field: TextField::Slot(slot),
         counts: TextCounts {
@@ -127,33 +157,12 @@ pub fn replace_text(
     slot: usize,
     text: &[u8],
 ) -> TextCounts
-    requires { ⌜ Counted limits counts (now words) × (slot < counts .slots) × (countsFit limits counts 0 (getD (now words) slot 0) (length (now text)) ≡ true) ⌝ }
+    requires { ⌜ Counted limits counts (now words) × (slot < counts .slots) × (countsFit limits counts 0 (lengthOf (now words) slot) (length (now text)) ≡ true) ⌝ }
     ensures { λ r. ⌜ ReplacedTo limits counts (now (words .entry)) (now (words .exit)) slot (now (text .entry)) r ⌝ }
 {
-    let old = words[slot] as usize;
-    put_text(words, limits, counts, slot, text);
+    let old = put_text(words, limits, counts, slot, text);
     let slots = counts.slots;
     let free = counts.free;
     let bytes = counts.bytes - old + text.len();
-    TextCounts { slots, free, bytes }
-}
-
-// Releases the text of a slot: length 0, the bytes behind it moved down, and the slot pushed on the stack.
-pub fn release_text(
-    words: &mut [u64],
-    limits: TextLimits,
-    counts: TextCounts,
-    slot: usize,
-) -> TextCounts
-    requires { ⌜ Counted limits counts (now words) × (slot < counts .slots) × (counts .free < limits .slots) ⌝ }
-    ensures { λ r. ⌜ ReleasedTo limits counts (now (words .entry)) (now (words .exit)) slot r ⌝ }
-{
-    let old = words[slot] as usize;
-    make_room(words, limits, counts, slot, 0);
-    let top = counts.free;
-    words[limits.slots + top] = slot as u64;
-    let slots = counts.slots;
-    let free = top + 1;
-    let bytes = counts.bytes - old;
     TextCounts { slots, free, bytes }
 }

@@ -1,4 +1,4 @@
--- Pieces of bytes that lie one behind the other without gaps, with a word for the length of each: a pool of texts, a table of names.
+-- Pieces of bytes that lie one behind the other without gaps, with a word for the length of each: a table of names.
 use mathlib.Core.Bool.{Bool, true, false, _&&_, cond}
 use mathlib.Core.List.{List, [], _∷_}
 use Prim.Native.Nat.{ℕ, suc, _+_}

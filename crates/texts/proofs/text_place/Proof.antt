@@ -2,15 +2,19 @@
 -- Assumes nothing.
 use mathlib.Core.Path.{_≡_}
 use mathlib.Core.List.{List}
-use Prim.Native.Nat.{ℕ}
-use Rattle.words.specs.Pieces.{placeOf}
+use Prim.Native.Nat.{ℕ, min}
 use Rattle.words.specs.declared.pieces.Place.{Place}
+use Rattle.texts.specs.Words.{textPlace, placeShown}
+use Rattle.texts.specs.declared.TextLimits.{TextLimits}
+use Rattle.texts.specs.declared.TextCounts.{TextCounts}
 use borrow.Author.Needs.{needs}
 use Rattle.texts.proofs.text_place.Statement.{statement}
 use Rattle.texts.proofs.text_place.Tie as tie
 
-shown : (a b n used slot : ℕ) (words : List ℕ) (r : Place) → n ≡ a → used ≡ b → r ≡ placeOf n used slot words → r ≡ placeOf a b slot words
-shown a b n used slot words r e f g = rw (e, f) at g
+shown : (limits : TextLimits) (counts : TextCounts) (slot n used : ℕ) (words : List ℕ) (r : Place) → n ≡ min (counts .slots) (limits .slots) → used ≡ min (counts .bytes) (limits .bytes)
+    → r ≡ textPlace n used slot words → r ≡ placeShown limits counts slot words
+unfolding placeShown
+shown limits counts slot n used words r e f g = rw (e, f) at g
 
 least-requires : tie.Need-least-requires
 least-requires c κs = search needs
@@ -24,7 +28,7 @@ locate-requires c κs = search needs
 returns : tie.Need-returns
 returns c =
     let a = c .before .before .before .before .args in
-    shown _ _ _ _ (a .slot) (a .words .now) _ (c .before .before .least .ensures) (c .before .least2 .ensures) (c .locate .ensures)
+    shown (a .limits) (a .counts) (a .slot) _ _ (a .words .now) _ (c .before .before .least .ensures) (c .before .least2 .ensures) (c .locate .ensures)
 
 pub text-place-spec : {M : Type 1} → statement M
 text-place-spec = tie.close (tie.spec least-requires least-requires-2 locate-requires returns)

@@ -4,10 +4,8 @@ use mathlib.Core.Path.{_≡_, refl}
 use mathlib.Core.Bool.{true}
 use Prim.Native.Nat.{_-_, _≤_}
 use native.Mathlib.Omega.{arith}
-use lib.ListN.{length}
 use Rattle.words.specs.Lists.{allBelow}
 use Rattle.memory.specs.Decode.{slotsMade}
-use Rattle.memory.proofs.Limits.{sizes}
 use Rattle.entries.specs.Nodes.{decodeNodes}
 use Rattle.entries.specs.Entering.{markedOnce}
 use Rattle.entries.proofs.Marks.{tested-next, tested-not, tested-all}
@@ -27,11 +25,6 @@ made-requires c κs = tt
 loop-holds : tie.Need-loop-holds Inv-loop μ-loop
 loop-holds c = (omega arith, refl)
 
-cast-t7 : tie.Need-cast-t7 Inv-loop μ-loop
-cast-t7 c =
-    let s = c .before .before .before .before .before in
-    omega (arith, c .before .before .made .ensures, sizes (s .args .d) (length (s .args .mem .now)) (s .pre .0) .nodes)
-
 mul-entered-once : tie.Need-mul-entered-once Inv-loop μ-loop
 mul-entered-once c = omega arith
 
@@ -43,7 +36,7 @@ shared-slice-read-entered-once c =
 entered-once-requires : tie.Need-entered-once-requires Inv-loop μ-loop
 entered-once-requires c κs =
     let s = c .before .before .before .before .before .before in
-    (s .pre .0, omega (arith, c .before .before .before .made .ensures))
+    (s .pre .0, omega (arith, c .before .before .before .made .ensures), s .pre .2)
 
 returns : tie.Need-returns Inv-loop μ-loop
 returns c =
@@ -74,7 +67,6 @@ all-entered-spec =
     μ-loop
     made-requires
     loop-holds
-    cast-t7
     mul-entered-once
     shared-slice-read-entered-once
     entered-once-requires

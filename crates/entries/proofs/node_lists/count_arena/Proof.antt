@@ -3,10 +3,8 @@
 use mathlib.Core.Path.{_∙_}
 use Prim.Native.Nat.{_-_}
 use native.Mathlib.Omega.{arith}
-use lib.ListN.{length}
 use Rattle.memory.specs.Layout.{whichOf}
 use Rattle.memory.specs.Decode.{slotsMade}
-use Rattle.memory.proofs.Limits.{sizes}
 use Rattle.entries.specs.Nodes.{decodeNodes}
 use Rattle.entries.specs.Entering.{entriesEnter, slotsEntered}
 use Rattle.entries.proofs.Marks.{Passing, passing-none, passing-next, passing-not, passing-all}
@@ -25,15 +23,10 @@ made-requires c κs = tt
 loop-holds : tie.Need-loop-holds Inv-loop μ-loop
 loop-holds c = passing-none _ _ _ _ _
 
-cast-t8 : tie.Need-cast-t8 Inv-loop μ-loop
-cast-t8 c =
-    let s = c .before .before .before .before .before in
-    omega (arith, c .before .before .made .ensures, sizes (s .args .d) (length (s .args .mem .now)) (s .pre .0) .nodes)
-
 count-list-requires : tie.Need-count-list-requires Inv-loop μ-loop
 count-list-requires c κs =
     let s = c .before .before .before .before .before .before .pre in
-    (s .0, omega (arith, c .before .before .loop .inv .same), omega (arith, c .before .before .before .made .ensures), s .2)
+    (s .0, omega (arith, c .before .before .loop .inv .same), omega (arith, c .before .before .before .made .ensures), s .2, s .3)
 
 same-length : tie.Need-same-length Inv-loop μ-loop
 same-length c = c .before .before .before .count-list .kept .1 .1 .1 .1 .0 ∙ c .before .before .before .before .before .before .loop .inv .same
@@ -64,7 +57,6 @@ count-arena-spec =
     μ-loop
     made-requires
     loop-holds
-    cast-t8
     count-list-requires
     same-length
     returns

@@ -34,7 +34,7 @@ add-count-entry c = omega arith
 count-entry-requires : tie.Need-count-entry-requires Inv-loop μ-loop
 count-entry-requires c κs =
     let s = c .before .before .before .before .before .pre in
-    (s .0, omega (arith, c .before .before .loop .inv .same), omega arith)
+    (s .0, omega (arith, c .before .before .loop .inv .same), omega arith, s .3)
 
 same-length : tie.Need-same-length Inv-loop μ-loop
 same-length c = c .before .before .before .count-entry .kept .1 .1 .1 .1 .1 .0 ∙ c .before .before .before .before .before .before .loop .inv .same

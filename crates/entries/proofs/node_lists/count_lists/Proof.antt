@@ -22,7 +22,7 @@ returns c =
 count-arena-requires-2 : tie.Need-count-arena-requires-2
 count-arena-requires-2 c κs =
     let s = c .before .before .before .before .before .before .before .before .pre in
-    (s .0, omega (arith, c .before .before .before .before .count-arena .kept .1 .1 .1 .0), s .2)
+    (s .0, omega (arith, c .before .before .before .before .count-arena .kept .1 .1 .1 .0), s .2, s .3)
 
 same-length-2 : tie.Need-same-length-2
 same-length-2 c = c .before .before .before .count-arena2 .kept .1 .1 .1 .0 ∙ c .before .before .before .before .before .before .before .before .count-arena .kept .1 .1 .1 .0
@@ -35,7 +35,7 @@ returns-2 c =
 count-arena-requires-3 : tie.Need-count-arena-requires-3
 count-arena-requires-3 c κs =
     let s = c .before .before .before .before .before .before .before .before .before .before .before .before .before .pre in
-    (s .0, omega (arith, c .before .before .before .before .count-arena2 .kept .1 .1 .1 .0, c .before .before .before .before .before .before .before .before .before .count-arena .kept .1 .1 .1 .0), s .2)
+    (s .0, omega (arith, c .before .before .before .before .count-arena2 .kept .1 .1 .1 .0, c .before .before .before .before .before .before .before .before .before .count-arena .kept .1 .1 .1 .0), s .2, s .3)
 
 same-length-3 : tie.Need-same-length-3
 same-length-3 c = c .before .before .count-arena3 .kept .1 .1 .1 .0 ∙ c .before .before .before .before .before .before .before .count-arena2 .kept .1 .1 .1 .0 ∙ c .before .before .before .before .before .before .before .before .before .before .before .before .count-arena .kept .1 .1 .1 .0

@@ -1,12 +1,15 @@
 -- `entries::node_lists::stands_in` meets its contract.
 -- Assumes nothing.
-use Rattle.entries.proofs.Counting.{list-is}
-use Rattle.model.specs.Kinds as kinds
+use Rattle.model.specs.Doc.{kindIn}
 use Rattle.memory.specs.Layout.{whichOf}
-use Rattle.memory.specs.Decode.{kindOf}
+use Rattle.entries.specs.Nodes.{decodeNodes}
+use Rattle.entries.proofs.Counting.{kind-in-list}
 use borrow.Author.Needs.{needs}
 use Rattle.entries.proofs.node_lists.stands_in.Statement.{statement}
 use Rattle.entries.proofs.node_lists.stands_in.Tie as tie
+
+kind-of-requires : tie.Need-kind-of-requires
+kind-of-requires c κs = search needs
 
 list-number-requires : tie.Need-list-number-requires
 list-number-requires c κs = search needs
@@ -16,8 +19,9 @@ arena-number-requires c κs = search needs
 
 returns : tie.Need-returns
 returns c =
-    let s = c .before .before .args in
-    list-is (kinds.whichOf (kindOf (s .«data»))) (whichOf (s .arena)) _ _ (c .before .list-number .ensures) (c .arena-number .ensures)
+    let a = c .before .before .before .before .args in
+    kind-in-list (kindIn (decodeNodes (a .d) (a .mem .now)) (a .s)) (whichOf (a .arena)) _ _ _ (c .before .before .kind-of .ensures) (c .before .list-number .ensures) (c .arena-number .ensures)
 
 pub stands-in-spec : {M : Type 1} → statement M
-stands-in-spec = tie.close (tie.spec list-number-requires arena-number-requires returns)
+stands-in-spec =
+    tie.close (tie.spec kind-of-requires list-number-requires arena-number-requires returns)

@@ -26,7 +26,7 @@ loop-holds c =
 pass-slot-requires : tie.Need-pass-slot-requires Inv-loop μ-loop
 pass-slot-requires c κs =
     let s = c .before .before .before .before .before .before .pre in
-    (s .0 .0, omega (arith, c .before .before .loop .inv .same, s .1 .0), c .before .before .loop .inv .known, omega (arith, c .before .before .before .made .ensures))
+    (s .0 .0, omega (arith, c .before .before .loop .inv .same, s .1 .0), c .before .before .loop .inv .known, omega (arith, c .before .before .before .made .ensures), s .0 .1, s .0 .2)
 
 same-length : tie.Need-same-length Inv-loop μ-loop
 same-length c = c .before .before .before .pass-slot .kept .1 .1 .0 ∙ c .before .before .before .before .before .before .loop .inv .same

@@ -25,7 +25,7 @@ loop-holds c =
     let d = decodeNodes (a .d) (a .mem .now) in
     let e = gens-made (a .d) (a .mem .now) in
     let o = parents-made (a .d) (a .mem .now) in
-    follow-start d o (a .slot)
+    follow-start d o (a .slot) (s .pre .4)
 
 returns : tie.Need-returns Inv-loop μ-loop
 returns c =
@@ -54,7 +54,7 @@ returns-2 c =
 parent-slot-requires : tie.Need-parent-slot-requires Inv-loop μ-loop
 parent-slot-requires c κs =
     let s = c .before .before .before .before .before .before .before .before in
-    (s .pre .0, omega (arith, c .before .before .before .before .before .made .ensures))
+    (s .pre .0, c .before .before .before .before .loop .inv .live (omega (arith, c .before .before .before .before .before .made .ensures, gens-made (s .args .d) (s .args .mem .now))))
 
 add-k : tie.Need-add-k Inv-loop μ-loop
 add-k c = omega arith
@@ -69,7 +69,7 @@ loop-again c =
     let d = decodeNodes (a .d) (a .mem .now) in
     let e = gens-made (a .d) (a .mem .now) in
     let o = parents-made (a .d) (a .mem .now) in
-    follow-step d o _ _ _ _ (c .before .before .before .before .before .loop .inv) (omega (arith, c .before .before .before .before .before .before .made .ensures)) (omega (arith, c .before .before .before .before .before .before .made .ensures)) (c .parent-slot .ensures)
+    follow-step d o _ _ _ _ (s .pre .3) (c .before .before .before .before .before .loop .inv) (omega (arith, c .before .before .before .before .before .before .made .ensures)) (omega (arith, c .before .before .before .before .before .before .made .ensures)) (c .parent-slot .ensures)
 
 returns-3 : tie.Need-returns-3 Inv-loop μ-loop
 returns-3 c =

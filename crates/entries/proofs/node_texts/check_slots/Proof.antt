@@ -12,7 +12,7 @@ count-fields-requires : tie.Need-count-fields-requires
 count-fields-requires c κs =
     let s = c .before .before .before in
     let a = s .args in
-    (s .pre .0 .0, omega (arith, texts-inside (a .d) (a .mem .now) (s .pre .0 .0) (s .pre .0 .1), s .pre .1 .0))
+    (s .pre .0 .0, omega (arith, texts-inside (a .d) (a .mem .now) (s .pre .0 .0) (s .pre .0 .1), s .pre .1 .0), s .pre .0 .3)
 
 same-length : tie.Need-same-length
 same-length c = search needs

@@ -28,7 +28,7 @@ returns-2 c =
 check-slots-requires : tie.Need-check-slots-requires
 check-slots-requires c κs =
     let s = c .before .before .before .before .before .before .before in
-    ((s .pre .0 .0, s .pre .0 .1, sym (c .before .before .before .before .texts-hold .ensures) ∙ passed _ (c .before .before .before .if1 .left)), s .pre .1)
+    ((s .pre .0 .0, s .pre .0 .1, sym (c .before .before .before .before .texts-hold .ensures) ∙ passed _ (c .before .before .before .if1 .left), s .pre .0 .2), s .pre .1)
 
 same-length : tie.Need-same-length
 same-length c = search needs

@@ -6,7 +6,6 @@ use native.Mathlib.Omega.{arith}
 use lib.ListN.{length}
 use Rattle.model.specs.Rules.{heldIn}
 use Rattle.memory.specs.Decode.{slotsMade}
-use Rattle.memory.proofs.Limits.{sizes}
 use Rattle.entries.specs.Nodes.{decodeNodes}
 use Rattle.entries.specs.Fields.{fieldsHold}
 use Rattle.entries.proofs.Marks.{Passing, passing-none, passing-next, passing-not, passing-all}
@@ -26,15 +25,10 @@ made-requires c κs = tt
 loop-holds : tie.Need-loop-holds Inv-loop μ-loop
 loop-holds c = passing-none _ _ _ _ _
 
-cast-t7 : tie.Need-cast-t7 Inv-loop μ-loop
-cast-t7 c =
-    let s = c .before .before .before .before .before in
-    omega (arith, c .before .before .made .ensures, sizes (s .args .d) (length (s .args .mem .now)) (s .pre .0) .nodes)
-
 count-node-requires : tie.Need-count-node-requires Inv-loop μ-loop
 count-node-requires c κs =
     let s = c .before .before .before .before .before .before .pre in
-    (s .0, omega (arith, c .before .before .before .made .ensures), omega (arith, c .before .before .loop .inv .same, s .1))
+    (s .0, omega (arith, c .before .before .before .made .ensures), omega (arith, c .before .before .loop .inv .same, s .1), s .2)
 
 same-length : tie.Need-same-length Inv-loop μ-loop
 same-length c = c .before .before .before .count-node .kept .1 .1 .1 .0 ∙ c .before .before .before .before .before .before .loop .inv .same
@@ -65,7 +59,6 @@ count-fields-spec =
     μ-loop
     made-requires
     loop-holds
-    cast-t7
     count-node-requires
     same-length
     returns

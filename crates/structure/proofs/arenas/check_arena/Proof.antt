@@ -13,7 +13,7 @@ marks-at-requires : tie.Need-marks-at-requires
 marks-at-requires c κs =
     let s = c .before .before in
     let w = whichOf (s .args .arena) in
-    let ok = buffers-memory (s .args .d) (length (s .args .mem .now)) (length (s .args .scratch .now)) (s .pre) in
+    let ok = buffers-memory (s .args .d) (length (s .args .mem .now)) (length (s .args .scratch .now)) (s .pre .0) in
     memory-limits (s .args .d) (length (s .args .mem .now)) ok
 
 arena-used-requires : tie.Need-arena-used-requires
@@ -23,15 +23,15 @@ add-end : tie.Need-add-end
 add-end c =
     let s = c .before .before .before .before in
     let w = whichOf (s .args .arena) in
-    let ok = buffers-memory (s .args .d) (length (s .args .mem .now)) (length (s .args .scratch .now)) (s .pre) in
-    omega (arith, marks-inside (s .args .d) (length (s .args .mem .now)) (length (s .args .scratch .now)) w (s .pre), marks-narrow (s .args .d) (length (s .args .mem .now)) w ok, c .before .marks-at .ensures, c .arena-used .ensures)
+    let ok = buffers-memory (s .args .d) (length (s .args .mem .now)) (length (s .args .scratch .now)) (s .pre .0) in
+    omega (arith, marks-inside (s .args .d) (length (s .args .mem .now)) (length (s .args .scratch .now)) w (s .pre .0), marks-narrow (s .args .d) (length (s .args .mem .now)) w ok, c .before .marks-at .ensures, c .arena-used .ensures)
 
 mul-claim-slots : tie.Need-mul-claim-slots
 mul-claim-slots c =
     let s = c .before .before .before .before in
     let w = whichOf (s .args .arena) in
-    let ok = buffers-memory (s .args .d) (length (s .args .mem .now)) (length (s .args .scratch .now)) (s .pre) in
-    omega (arith, marks-inside (s .args .d) (length (s .args .mem .now)) (length (s .args .scratch .now)) w (s .pre), marks-narrow (s .args .d) (length (s .args .mem .now)) w ok, c .before .marks-at .ensures, c .arena-used .ensures)
+    let ok = buffers-memory (s .args .d) (length (s .args .mem .now)) (length (s .args .scratch .now)) (s .pre .0) in
+    omega (arith, marks-inside (s .args .d) (length (s .args .mem .now)) (length (s .args .scratch .now)) w (s .pre .0), marks-narrow (s .args .d) (length (s .args .mem .now)) w ok, c .before .marks-at .ensures, c .arena-used .ensures)
 
 sub-claim-slots : tie.Need-sub-claim-slots
 sub-claim-slots c = search needs
@@ -43,15 +43,15 @@ part-claim-slots-end : tie.Need-part-claim-slots-end
 part-claim-slots-end c =
     let s = c .before .before .before .before in
     let w = whichOf (s .args .arena) in
-    let ok = buffers-memory (s .args .d) (length (s .args .mem .now)) (length (s .args .scratch .now)) (s .pre) in
-    omega (arith, marks-inside (s .args .d) (length (s .args .mem .now)) (length (s .args .scratch .now)) w (s .pre), marks-narrow (s .args .d) (length (s .args .mem .now)) w ok, c .before .marks-at .ensures, c .arena-used .ensures)
+    let ok = buffers-memory (s .args .d) (length (s .args .mem .now)) (length (s .args .scratch .now)) (s .pre .0) in
+    omega (arith, marks-inside (s .args .d) (length (s .args .mem .now)) (length (s .args .scratch .now)) w (s .pre .0), marks-narrow (s .args .d) (length (s .args .mem .now)) w ok, c .before .marks-at .ensures, c .arena-used .ensures)
 
 claim-slots-requires : tie.Need-claim-slots-requires
 claim-slots-requires c κs =
     let s = c .before .before .before .before .before in
     let w = whichOf (s .args .arena) in
-    let ok = buffers-memory (s .args .d) (length (s .args .mem .now)) (length (s .args .scratch .now)) (s .pre) in
-    (ok, omega (arith, marks-inside (s .args .d) (length (s .args .mem .now)) (length (s .args .scratch .now)) w (s .pre), c .before .before .marks-at .ensures, c .before .arena-used .ensures))
+    let ok = buffers-memory (s .args .d) (length (s .args .mem .now)) (length (s .args .scratch .now)) (s .pre .0) in
+    (ok, omega (arith, marks-inside (s .args .d) (length (s .args .mem .now)) (length (s .args .scratch .now)) w (s .pre .0), c .before .before .marks-at .ensures, c .before .arena-used .ensures), s .pre .1)
 
 same-length : tie.Need-same-length
 same-length c = search needs

@@ -1,6 +1,6 @@
 -- `structure::arenas::claim_slots` meets its contract.
 -- Assumes nothing.
-use mathlib.Core.Path.{_≡_, refl}
+use mathlib.Core.Path.{_≡_}
 use mathlib.Core.Bool.{true}
 use Prim.Native.Nat.{_-_, _≤_}
 use native.Mathlib.Omega.{arith}
@@ -35,7 +35,7 @@ loop-holds c =
     (omega arith, omega (arith, s .pre .1), marks-none (arenaIn (s .args .d) (whichOf (s .args .arena)) (s .args .mem .now)) (blockIn (decodeNodes (s .args .d) (s .args .mem .now)) (whichOf (s .args .arena))) (s .args .marks .now) _ (s .pre .1) (c .before .before .before .clear .ensures), claims-none (arenaIn (s .args .d) (whichOf (s .args .arena)) (s .args .mem .now)) (blockIn (decodeNodes (s .args .d) (s .args .mem .now)) (whichOf (s .args .arena))))
 
 claim-slot-requires : tie.Need-claim-slot-requires Inv-loop μ-loop
-claim-slot-requires c κs = (c .before .before .before .before .before .before .before .before .before .before .pre .0, omega (arith, c .before .before .before .made .ensures), c .before .before .loop .inv .1)
+claim-slot-requires c κs = (c .before .before .before .before .before .before .before .before .before .before .pre .0, omega (arith, c .before .before .before .made .ensures), c .before .before .loop .inv .1, c .before .before .before .before .before .before .before .before .before .before .pre .2)
 
 same-length : tie.Need-same-length Inv-loop μ-loop
 same-length c = omega arith

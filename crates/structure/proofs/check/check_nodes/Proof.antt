@@ -1,10 +1,12 @@
 -- `structure::check::check_nodes` meets its contract.
 -- Assumes nothing.
-use mathlib.Core.Path.{_∙_}
+use mathlib.Core.Path.{sym, _∙_}
 use lib.ListN.{length}
 use Rattle.entries.specs.Nodes.{decodeNodes}
 use Rattle.structure.proofs.Claimed.{buffers-kept}
-use Rattle.structure.proofs.Together.{slots-broken, fields-there, parents-there, arenas-broken, blocks-there, links-decide}
+use Rattle.structure.proofs.CountsAndFields.{words-there}
+use Rattle.structure.proofs.Lists.{not-false}
+use Rattle.structure.proofs.Together.{slots-broken, fields-there, parents-there, blocks-broken, links-decide}
 use borrow.Author.Needs.{needs}
 use Rattle.structure.proofs.check.check_nodes.Statement.{statement}
 use Rattle.structure.proofs.check.check_nodes.Tie as tie
@@ -20,11 +22,11 @@ returns c =
     let a = c .before .before .before .before .before .before .before .args in
     slots-broken (decodeNodes (a .d) (a .mem .now)) _ (c .before .before .before .check-slots .ensures) (c .if1 .taken)
 
-check-arenas-requires : tie.Need-check-arenas-requires
-check-arenas-requires c κs =
+check-blocks-requires : tie.Need-check-blocks-requires
+check-blocks-requires c κs =
     let s = c .before .before .before .before .before .before .before .before in (
       buffers-kept (s .args .d) (length (s .args .mem .now)) (length (s .args .scratch .now)) _ (s .pre) (c .before .before .before .before .check-slots .kept .1 .1 .0),
-      fields-there (decodeNodes (s .args .d) (s .args .mem .now)) _ (c .before .before .before .before .check-slots .ensures) (c .before .if1 .left),
+      words-there (s .args .d) (s .args .mem .now) (fields-there (decodeNodes (s .args .d) (s .args .mem .now)) _ (c .before .before .before .before .check-slots .ensures) (c .before .if1 .left)),
     )
 
 same-length-2 : tie.Need-same-length-2
@@ -33,7 +35,7 @@ same-length-2 c = search needs
 returns-2 : tie.Need-returns-2
 returns-2 c =
     let a = c .before .before .before .before .before .before .before .before .before .before .before .before .args in
-    arenas-broken (decodeNodes (a .d) (a .mem .now)) _ (c .before .before .before .before .before .before .before .before .check-slots .ensures) (c .before .before .before .before .before .if1 .left) _ (c .before .before .before .check-arenas .ensures) (c .if2 .taken)
+    blocks-broken (decodeNodes (a .d) (a .mem .now)) _ (c .before .before .before .before .before .before .before .before .check-slots .ensures) (c .before .before .before .before .before .if1 .left) _ (c .before .before .before .check-blocks .ensures) (c .if2 .taken)
 
 check-links-requires : tie.Need-check-links-requires
 check-links-requires c κs =
@@ -41,9 +43,10 @@ check-links-requires c κs =
     let D = decodeNodes (s .args .d) (s .args .mem .now) in
     let e = c .before .before .before .before .before .before .before .before .before .check-slots .ensures in
     let q = c .before .before .before .before .before .before .if1 .left in (
-      buffers-kept (s .args .d) (length (s .args .mem .now)) (length (s .args .scratch .now)) _ (s .pre) (c .before .before .before .before .check-arenas .kept .1 .1 .0 ∙ c .before .before .before .before .before .before .before .before .before .check-slots .kept .1 .1 .0),
+      buffers-kept (s .args .d) (length (s .args .mem .now)) (length (s .args .scratch .now)) _ (s .pre) (c .before .before .before .before .check-blocks .kept .1 .1 .0 ∙ c .before .before .before .before .before .before .before .before .before .check-slots .kept .1 .1 .0),
       parents-there D _ e q,
-      blocks-there D _ e q _ (c .before .before .before .before .check-arenas .ensures) (c .before .if2 .left),
+      sym (c .before .before .before .before .check-blocks .ensures) ∙ not-false _ (c .before .if2 .left),
+      fields-there D _ e q,
     )
 
 same-length-3 : tie.Need-same-length-3
@@ -52,7 +55,7 @@ same-length-3 c = search needs
 returns-3 : tie.Need-returns-3
 returns-3 c =
     let a = c .before .before .before .before .before .before .before .before .before .before .before .before .before .before .before .before .args in
-    links-decide (decodeNodes (a .d) (a .mem .now)) _ (c .before .before .before .before .before .before .before .before .before .before .before .before .check-slots .ensures) (c .before .before .before .before .before .before .before .before .before .if1 .left) _ (c .before .before .before .before .before .before .before .check-arenas .ensures) (c .before .before .before .before .if2 .left) _ (c .before .before .check-links .ensures)
+    links-decide (decodeNodes (a .d) (a .mem .now)) _ (c .before .before .before .before .before .before .before .before .before .before .before .before .check-slots .ensures) (c .before .before .before .before .before .before .before .before .before .if1 .left) _ (c .before .before .before .before .before .before .before .check-blocks .ensures) (c .before .before .before .before .if2 .left) _ (c .before .before .check-links .ensures)
 
 pub check-nodes-spec : {M : Type 1} → statement M
 check-nodes-spec =
@@ -61,7 +64,7 @@ check-nodes-spec =
     check-slots-requires
     same-length
     returns
-    check-arenas-requires
+    check-blocks-requires
     same-length-2
     returns-2
     check-links-requires

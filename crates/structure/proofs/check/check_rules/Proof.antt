@@ -4,7 +4,8 @@ use native.Mathlib.Omega.{arith}
 use lib.ListN.{length}
 use borrow.Author.Needs.{needs}
 use Rattle.structure.proofs.Claimed.{buffers-memory}
-use Rattle.structure.proofs.Together.{texts-inside, rules-broken, texts-decide, counts-there}
+use Rattle.structure.proofs.CountsAndFields.{words-there}
+use Rattle.structure.proofs.Together.{texts-inside, rules-broken, texts-decide, fields-kept, counts-there}
 use Rattle.structure.proofs.check.check_rules.Statement.{statement}
 use Rattle.structure.proofs.check.check_rules.Tie as tie
 
@@ -34,7 +35,7 @@ check-pool-requires : tie.Need-check-pool-requires
 check-pool-requires c κs =
     let s = c .before .before .before .before .before .before .before .before .before in
     let ok = buffers-memory (s .args .d) (length (s .args .mem .now)) (length (s .args .scratch .now)) (s .pre) in
-    ((ok, counts-there (s .args .d) (s .args .mem .now) ok _ (c .before .before .before .before .before .check-nodes .ensures) (c .before .before .if1 .left)), omega (arith, texts-inside (s .args .d) (length (s .args .mem .now)) (length (s .args .scratch .now)) (s .pre)))
+    ((ok, counts-there (s .args .d) (s .args .mem .now) ok _ (c .before .before .before .before .before .check-nodes .ensures) (c .before .before .if1 .left), words-there (s .args .d) (s .args .mem .now) (fields-kept (s .args .d) (s .args .mem .now) ok _ (c .before .before .before .before .before .check-nodes .ensures) (c .before .before .if1 .left))), omega (arith, texts-inside (s .args .d) (length (s .args .mem .now)) (length (s .args .scratch .now)) (s .pre)))
 
 same-length-2 : tie.Need-same-length-2
 same-length-2 c = search needs

@@ -1,11 +1,13 @@
 -- `structure::check::check_slots` meets its contract.
 -- Assumes nothing.
+use mathlib.Core.Path.{sym, _∙_}
 use mathlib.Core.Bool.{true}
 use native.Mathlib.Omega.{arith}
 use lib.ListN.{length}
 use Rattle.structure.proofs.Claimed.{buffers-memory}
+use Rattle.structure.proofs.CountsAndFields.{words-there}
 use Rattle.structure.proofs.Together.{slots-inside}
-use Rattle.structure.proofs.Lists.{ended-first, ended-second, decided-third}
+use Rattle.structure.proofs.Lists.{not-false, ended-first, ended-second, decided-third}
 use borrow.Author.Needs.{needs}
 use Rattle.structure.proofs.check.check_slots.Statement.{statement}
 use Rattle.structure.proofs.check.check_slots.Tie as tie
@@ -49,7 +51,7 @@ check-parents-requires : tie.Need-check-parents-requires
 check-parents-requires c κs =
     let s = c .before .before .before .before .before .before .before .before .before .before in
     let ok = buffers-memory (s .args .d) (length (s .args .mem .now)) (length (s .args .scratch .now)) (s .pre) in
-    ok
+    (ok, words-there (s .args .d) (s .args .mem .now) (sym (c .before .before .before .before .before .before .before .check-fields .ensures) ∙ not-false _ (c .before .before .before .before .before .before .if1 .left)))
 
 same-length-2 : tie.Need-same-length-2
 same-length-2 c = search needs

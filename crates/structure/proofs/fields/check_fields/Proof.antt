@@ -1,15 +1,22 @@
 -- `structure::fields::check_fields` meets its contract.
 -- Assumes nothing.
-use Rattle.structure.proofs.CountsAndFields.{fields-hold}
+use mathlib.Core.Path.{sym, _∙_}
+use Rattle.structure.proofs.Lists.{not-false}
+use Rattle.structure.proofs.CountsAndFields.{fields-broken, fields-hold}
 use borrow.Author.Needs.{needs}
 use Rattle.structure.proofs.fields.check_fields.Statement.{statement}
 use Rattle.structure.proofs.fields.check_fields.Tie as tie
 
-counts-within-requires : tie.Need-counts-within-requires
-counts-within-requires c κs = search needs
-
 slots-fit-requires : tie.Need-slots-fit-requires
 slots-fit-requires c κs = search needs
+
+returns : tie.Need-returns
+returns c =
+    let a = c .before .before .before .args in
+    fields-broken (a .d) (a .mem .now) _ (c .before .slots-fit .ensures) (c .if1 .taken)
+
+counts-within-requires : tie.Need-counts-within-requires
+counts-within-requires c κs = search needs
 
 arenas-fit-requires : tie.Need-arenas-fit-requires
 arenas-fit-requires c κs = search needs
@@ -18,10 +25,14 @@ both-requires : tie.Need-both-requires
 both-requires c κs = search needs
 
 root-stands-requires : tie.Need-root-stands-requires
-root-stands-requires c κs = search needs
+root-stands-requires c κs =
+    let s = c .before .before .before .before .before .before in
+    (s .pre, sym (c .before .before .before .before .slots-fit .ensures) ∙ not-false _ (c .before .before .before .if1 .left))
 
 only-root-requires : tie.Need-only-root-requires
-only-root-requires c κs = search needs
+only-root-requires c κs =
+    let s = c .before .before .before .before .before .before .before in
+    (s .pre, sym (c .before .before .before .before .before .slots-fit .ensures) ∙ not-false _ (c .before .before .before .before .if1 .left))
 
 both-requires-2 : tie.Need-both-requires-2
 both-requires-2 c κs = search needs
@@ -29,26 +40,23 @@ both-requires-2 c κs = search needs
 both-requires-3 : tie.Need-both-requires-3
 both-requires-3 c κs = search needs
 
-both-requires-4 : tie.Need-both-requires-4
-both-requires-4 c κs = search needs
-
-returns : tie.Need-returns
-returns c =
+returns-2 : tie.Need-returns-2
+returns-2 c =
     let a = c .before .before .before .before .before .before .before .before .before .before .args in
-    fields-hold (a .d) (a .mem .now) _ _ _ _ _ _ _ _ _ (c .before .before .before .before .before .before .before .before .counts-within .ensures) (c .before .before .before .before .before .before .before .slots-fit .ensures) (c .before .before .before .before .before .before .arenas-fit .ensures) (c .before .before .before .before .before .both .ensures)
-    (c .before .before .before .before .root-stands .ensures) (c .before .before .before .only-root .ensures) (c .before .before .both2 .ensures) (c .before .both3 .ensures) (c .both4 .ensures)
+    fields-hold (a .d) (a .mem .now) _ (c .before .before .before .before .before .before .before .before .slots-fit .ensures) (c .before .before .before .before .before .before .before .if1 .left) _ _ _ _ _ _ _ (c .before .before .before .before .before .before .counts-within .ensures) (c .before .before .before .before .before .arenas-fit .ensures) (c .before .before .before .before .both .ensures)
+    (c .before .before .before .root-stands .ensures) (c .before .before .only-root .ensures) (c .before .both2 .ensures) (c .both3 .ensures)
 
 pub check-fields-spec : {M : Type 1} → statement M
 check-fields-spec =
     tie.close
     (tie.spec
-    counts-within-requires
     slots-fit-requires
+    returns
+    counts-within-requires
     arenas-fit-requires
     both-requires
     root-stands-requires
     only-root-requires
     both-requires-2
     both-requires-3
-    both-requires-4
-    returns)
+    returns-2)

@@ -1,6 +1,6 @@
 -- `structure::fields::only_root` meets its contract.
 -- Assumes nothing.
-use mathlib.Core.Path.{_≡_, refl, sym, ap, _∙_}
+use mathlib.Core.Path.{_≡_, refl}
 use mathlib.Core.Bool.{true}
 use Prim.Native.Nat.{_-_, _≤_}
 use native.Mathlib.Omega.{arith}
@@ -26,7 +26,7 @@ loop-holds : tie.Need-loop-holds Inv-loop μ-loop
 loop-holds c = (omega arith, refl)
 
 slot-root-requires : tie.Need-slot-root-requires Inv-loop μ-loop
-slot-root-requires c κs = (c .before .before .before .before .pre, omega (arith, c .before .before .made .ensures))
+slot-root-requires c κs = (c .before .before .before .before .pre .0, omega (arith, c .before .before .made .ensures), c .before .before .before .before .pre .1)
 
 returns : tie.Need-returns Inv-loop μ-loop
 returns c =

@@ -1,6 +1,6 @@
 -- `structure::fields::root_stands` meets its contract.
 -- Assumes nothing.
-use Rattle.structure.proofs.CountsAndFields.{root-none, root-old, root-found, root-no-node}
+use Rattle.structure.proofs.CountsAndFields.{root-none, root-old, first-live, root-top}
 use borrow.Author.Needs.{needs}
 use Rattle.structure.proofs.fields.root_stands.Statement.{statement}
 use Rattle.structure.proofs.fields.root_stands.Tie as tie
@@ -21,43 +21,17 @@ returns-2 c =
     let a = c .before .before .before .before .before .args in
     root-old (a .d) (a .mem .now) _ (c .before .before .before .made .ensures) (c .before .before .if1 .left) _ (c .before .generation .ensures) (c .if2 .taken)
 
-load-requires : tie.Need-load-requires
-load-requires c κs = search needs
-
-enum-known-found : tie.Need-enum-known-found
-enum-known-found c = search needs
-
 is-top-requires : tie.Need-is-top-requires
-is-top-requires c κs = search needs
-
-enum-told : tie.Need-enum-told
-enum-told c = search needs
+is-top-requires c κs =
+    let s = c .before .before .before .before .before in
+    (s .pre .0, first-live (s .args .d) (s .args .mem .now) _ (c .before .before .before .made .ensures) (c .before .before .if1 .left) _ (c .before .generation .ensures) (c .if2 .left) (s .pre .1))
 
 returns-3 : tie.Need-returns-3
 returns-3 c =
-    let a = c .before .before .before .before .before .before .before .before .before .before .args in
-    let g = c .before .before .before .before .before in
-    root-found (a .d) (a .mem .now) _ (g .before .before .before .made .ensures) (g .before .before .if1 .left) _ (g .before .generation .ensures) (g .if2 .left)
-    _ (c .before .before .before .before .load .ensures) _ _ (c .before .before .found .given .1) (c .is-top .ensures)
-
-returns-4 : tie.Need-returns-4
-returns-4 c =
-    let a = c .before .before .before .before .before .before .before .before .args in
-    let g = c .before .before .before in
-    root-no-node (a .d) (a .mem .now) _ (g .before .before .before .made .ensures) (g .before .before .if1 .left) _ (g .before .generation .ensures) (g .if2 .left)
-    _ (c .before .before .load .ensures) (c .enum-told .given .1)
+    let s = c .before .before .before .before .before .before in
+    root-top (s .args .d) (s .args .mem .now) _ (c .before .before .before .before .made .ensures) (c .before .before .before .if1 .left) _ (c .before .before .generation .ensures) (c .before .if2 .left) (s .pre .1) _ (c .is-top .ensures)
 
 pub root-stands-spec : {M : Type 1} → statement M
 root-stands-spec =
     tie.close
-    (tie.spec
-    made-requires
-    returns
-    generation-requires
-    returns-2
-    load-requires
-    enum-known-found
-    is-top-requires
-    enum-told
-    returns-3
-    returns-4)
+    (tie.spec made-requires returns generation-requires returns-2 is-top-requires returns-3)

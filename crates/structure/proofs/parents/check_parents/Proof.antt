@@ -1,6 +1,6 @@
 -- `structure::parents::check_parents` meets its contract.
 -- Assumes nothing.
-use mathlib.Core.Path.{_≡_, refl, sym, ap, _∙_}
+use mathlib.Core.Path.{_≡_, refl}
 use mathlib.Core.Bool.{true}
 use Prim.Native.Nat.{_-_, _≤_}
 use native.Mathlib.Omega.{arith}
@@ -26,7 +26,7 @@ loop-holds : tie.Need-loop-holds Inv-loop μ-loop
 loop-holds c = (omega arith, refl)
 
 slot-parent-requires : tie.Need-slot-parent-requires Inv-loop μ-loop
-slot-parent-requires c κs = (c .before .before .before .before .pre, omega (arith, c .before .before .made .ensures))
+slot-parent-requires c κs = (c .before .before .before .before .pre .0, omega (arith, c .before .before .made .ensures), c .before .before .before .before .pre .1)
 
 returns : tie.Need-returns Inv-loop μ-loop
 returns c =

@@ -2,7 +2,7 @@
 -- Assumes nothing.
 use Rattle.memory.proofs.Limits.{sizes}
 use mathlib.Core.Logic.{⊎-elim}
-use mathlib.Core.Path.{_≡_, refl, sym, ap, _∙_}
+use mathlib.Core.Path.{_≡_}
 use Prim.Native.Nat.{_+_, _-_, _≤_, _<_}
 use native.Mathlib.Omega.{arith}
 use lib.ListN.{length}
@@ -13,7 +13,7 @@ use Rattle.memory.specs.Decode.{arenaIn}
 use Rattle.memory.proofs.Shaped.{length-ids}
 use Rattle.entries.specs.Nodes.{decodeNodes}
 use Rattle.structure.specs.Tests.{elementTest}
-use Rattle.structure.proofs.RootElement.{counted-none, counted-yes, counted-no, counted-fits}
+use Rattle.structure.proofs.RootElement.{entry-resolves, counted-none, counted-yes, counted-no, counted-fits}
 use Rattle.structure.proofs.root.count_elements.Statement.{statement}
 use Rattle.structure.proofs.root.count_elements.Tie as tie
 
@@ -38,7 +38,11 @@ entry-requires : tie.Need-entry-requires Inv-loop μ-loop
 entry-requires c κs = (c .before .before .before .pre .0, omega (arith, c .before .before .before .pre .1))
 
 shows-element-requires : tie.Need-shows-element-requires Inv-loop μ-loop
-shows-element-requires c κs = c .before .before .before .before .pre .0
+shows-element-requires c κs =
+    let s = c .before .before .before .before in
+    let a = s .args in
+    let l = arenaIn (a .d) children (a .mem .now) .ids in
+    (s .pre .0, entry-resolves (decodeNodes (a .d) (a .mem .now)) l (a .start) (a .len) (c .before .before .loop .k) _ (s .pre .2) (omega (arith, s .pre .1, length-ids (a .d) (a .mem .now) (s .pre .0) children)) (c .before .loop-test .taken) (c .entry .ensures))
 
 add-count : tie.Need-add-count Inv-loop μ-loop
 add-count c =

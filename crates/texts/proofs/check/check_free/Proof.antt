@@ -12,6 +12,7 @@ use borrow.Author.Tests.{le-ltb, lt-ltb, eq-eqb, ne-eqb}
 use Rattle.words.specs.Parts.{part}
 use Rattle.words.specs.Lists.{all}
 use Rattle.words.proofs.Parts.{part-none, part-left-cons}
+use Rattle.texts.specs.Ends.{startOf}
 use Rattle.texts.specs.Words.{freeOk}
 use Rattle.texts.proofs.check.check_free.Statement.{statement}
 use Rattle.texts.proofs.check.check_free.Tie as tie
@@ -33,12 +34,18 @@ module _ (words : List ℕ) (base n made : ℕ) where
     outside : made ≤ getD words (base + k) 0 → false ≡ all (freeOk made words) (part base n words)
     outside g = sym (opened ∙ rw (le-ltb (getD words (base + k) 0) made g))
 
-    holds-bytes : (getD words (getD words (base + k) 0) 0 ≡ 0 → ⊥) → false ≡ all (freeOk made words) (part base n words)
-    holds-bytes g = sym (opened ∙ rw (ne-eqb (getD words (getD words (base + k) 0) 0) 0 g, and-false (ltb (getD words (base + k) 0) made)))
+    -- where the entry's text begins
+    module _ (start : ℕ) (e : start ≡ startOf words (getD words (base + k) 0)) where
+      holds-bytes : (getD words (getD words (base + k) 0) 0 ≡ start → ⊥) → false ≡ all (freeOk made words) (part base n words)
+      holds-bytes g =
+          let q = ne-eqb (getD words (getD words (base + k) 0) 0) (startOf words (getD words (base + k) 0)) (λ p. g (omega arith)) in
+          sym (opened ∙ rw (q, and-false (ltb (getD words (base + k) 0) made)))
 
-    next : getD words (base + k) 0 < made → getD words (getD words (base + k) 0) 0 ≡ 0
-        → all (freeOk made words) (part base n words) ≡ all (freeOk made words) (part (base + (k + 1)) (n - (k + 1)) words)
-    next g q = opened ∙ rw (lt-ltb (getD words (base + k) 0) made g, eq-eqb (getD words (getD words (base + k) 0) 0) 0 q)
+      next : getD words (base + k) 0 < made → getD words (getD words (base + k) 0) 0 ≡ start
+          → all (freeOk made words) (part base n words) ≡ all (freeOk made words) (part (base + (k + 1)) (n - (k + 1)) words)
+      next g p =
+          let q = eq-eqb (getD words (getD words (base + k) 0) 0) (startOf words (getD words (base + k) 0)) (omega arith) in
+          opened ∙ rw (lt-ltb (getD words (base + k) 0) made g, q)
 
 abbrev Inv-loop : tie.InvT-loop
 Inv-loop words base n made k₀ k = (k ≤ n) × (all (freeOk made words) (part base n words) ≡ all (freeOk made words) (part (base + k) (n - k) words))
@@ -48,7 +55,7 @@ abbrev μ-loop : tie.MeasureT-loop
 
 loop-holds : tie.Need-loop-holds Inv-loop μ-loop
 loop-holds c =
-    let a = c .args in
+    let a = c .before .args in
     (omega arith, first (a .words .now) (a .limits .slots) (a .counts .free) (a .counts .slots))
 
 add-slot : tie.Need-add-slot Inv-loop μ-loop
@@ -62,9 +69,12 @@ shared-slice-read-slot c = omega arith
 
 returns : tie.Need-returns Inv-loop μ-loop
 returns c =
-    let a = c .before .before .before .before .args in
+    let a = c .before .before .before .before .before .args in
     let loop = c .before .before .before .loop in
     outside (a .words .now) (a .limits .slots) (a .counts .free) (a .counts .slots) (loop .k) (omega arith) (omega arith) (loop .inv .1) (c .if1 .taken)
+
+text-start-requires : tie.Need-text-start-requires Inv-loop μ-loop
+text-start-requires c κs = omega arith
 
 mul-if2 : tie.Need-mul-if2 Inv-loop μ-loop
 mul-if2 c = omega arith
@@ -74,9 +84,9 @@ shared-slice-read-if2 c = omega arith
 
 returns-2 : tie.Need-returns-2 Inv-loop μ-loop
 returns-2 c =
-    let a = c .before .before .before .before .before .before .args in
-    let loop = c .before .before .before .before .before .loop in
-    holds-bytes (a .words .now) (a .limits .slots) (a .counts .free) (a .counts .slots) (loop .k) (omega arith) (omega arith) (loop .inv .1) (c .if2 .taken)
+    let a = c .before .before .before .before .before .before .before .before .args in
+    let loop = c .before .before .before .before .before .before .loop in
+    holds-bytes (a .words .now) (a .limits .slots) (a .counts .free) (a .counts .slots) (loop .k) (omega arith) (omega arith) (loop .inv .1) (c .before .before .text-start .result) (c .before .before .text-start .ensures) (c .if2 .taken)
 
 add-k : tie.Need-add-k Inv-loop μ-loop
 add-k c = omega arith
@@ -86,13 +96,13 @@ loop-less c = omega arith
 
 loop-again : tie.Need-loop-again Inv-loop μ-loop
 loop-again c =
-    let a = c .before .before .before .before .before .before .args in
-    let loop = c .before .before .before .before .before .loop in
-    (omega arith, next (a .words .now) (a .limits .slots) (a .counts .free) (a .counts .slots) (loop .k) (omega arith) (omega arith) (loop .inv .1) (c .before .before .if1 .left) (c .if2 .left))
+    let a = c .before .before .before .before .before .before .before .before .args in
+    let loop = c .before .before .before .before .before .before .loop in
+    (omega arith, next (a .words .now) (a .limits .slots) (a .counts .free) (a .counts .slots) (loop .k) (omega arith) (omega arith) (loop .inv .1) (c .before .before .text-start .result) (c .before .before .text-start .ensures) (c .before .before .before .if1 .left) (c .if2 .left))
 
 returns-3 : tie.Need-returns-3 Inv-loop μ-loop
 returns-3 c =
-    let a = c .before .before .args in
+    let a = c .before .before .before .args in
     let loop = c .before .loop in
     done (a .words .now) (a .limits .slots) (a .counts .free) (a .counts .slots) (loop .k) (c .loop-test .left) (loop .inv .1)
 
@@ -107,6 +117,7 @@ check-free-spec =
     mul-slot
     shared-slice-read-slot
     returns
+    text-start-requires
     mul-if2
     shared-slice-read-if2
     returns-2

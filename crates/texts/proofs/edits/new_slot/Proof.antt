@@ -1,4 +1,4 @@
--- `texts::edits::new_slot` meets its contract: the length behind the others, the bytes behind those used.
+-- `texts::edits::new_slot` meets its contract: the end behind the others, the bytes behind those used.
 -- Assumes nothing.
 use native.Mathlib.Omega.{arith}
 use lib.ListN.{length-set}
@@ -6,6 +6,9 @@ use Rattle.texts.proofs.Held.{new-to}
 use borrow.Author.Needs.{needs}
 use Rattle.texts.proofs.edits.new_slot.Statement.{statement}
 use Rattle.texts.proofs.edits.new_slot.Tie as tie
+
+add-bytes : tie.Need-add-bytes
+add-bytes c = search needs
 
 mul-words : tie.Need-mul-words
 mul-words c = search needs
@@ -25,9 +28,6 @@ write-bytes-requires c κs = simp length-set (omega arith)
 add-slots : tie.Need-add-slots
 add-slots c = search needs
 
-add-bytes : tie.Need-add-bytes
-add-bytes c = search needs
-
 same-length : tie.Need-same-length
 same-length c = omega (arith, simp length-set at (c .before .before .write-bytes .kept .0))
 
@@ -41,12 +41,12 @@ pub new-slot-spec : {M : Type 1} → statement M
 new-slot-spec =
     tie.close
     (tie.spec
+    add-bytes
     mul-words
     slice-write-words
     add-at
     add-at-2
     write-bytes-requires
     add-slots
-    add-bytes
     same-length
     returns)

@@ -1,11 +1,13 @@
 -- `texts::edits::put_text` meets its contract: room is made, then the bytes are written.
 -- Assumes nothing.
-use mathlib.Core.Path.{_≡_}
+use mathlib.Core.Path.{_≡_, ap}
 use mathlib.Core.List.{List}
 use Prim.Native.Nat.{ℕ}
 use native.Mathlib.Omega.{arith}
 use lib.ListN.{length}
 use Rattle.words.specs.Parts.{put}
+use Rattle.words.specs.declared.pieces.Place.{Place}
+use Rattle.texts.specs.Ends.{lengthOf}
 use Rattle.texts.specs.Words.{startAt, roomed, rewritten}
 use Rattle.texts.specs.declared.TextLimits.{TextLimits}
 use Rattle.texts.specs.declared.TextCounts.{TextCounts}
@@ -14,9 +16,13 @@ use borrow.Author.Needs.{needs}
 use Rattle.texts.proofs.edits.put_text.Statement.{statement}
 use Rattle.texts.proofs.edits.put_text.Tie as tie
 
-written : (limits : TextLimits) (counts : TextCounts) (words : List ℕ) (slot : ℕ) (t : List ℕ) (at : ℕ) (roomy after : List ℕ) → at ≡ startAt limits words slot
-    → roomy ≡ roomed limits counts words slot (length t) → after ≡ put at t roomy → after ≡ rewritten limits counts words slot t
-written limits counts words slot t at roomy after e f g = rw (e, f) at g
+module _ (limits : TextLimits) (counts : TextCounts) (words : List ℕ) (slot : ℕ) (room : Place) (e : room ≡ record { start = startAt limits words slot; len = lengthOf words slot }) where
+  starts : room .start ≡ startAt limits words slot
+  starts = ap (λ (p : Place). p .start) e
+
+  written : (t roomy after : List ℕ) → roomy ≡ roomed limits counts words slot (length t) → after ≡ put (room .start) t roomy
+      → (room .len ≡ lengthOf words slot) × (after ≡ rewritten limits counts words slot t)
+  written t roomy after f g = (ap (λ (p : Place). p .len) e, rw (starts, f) at g)
 
 make-room-requires : tie.Need-make-room-requires
 make-room-requires c κs = search needs
@@ -25,7 +31,8 @@ write-bytes-requires : tie.Need-write-bytes-requires
 write-bytes-requires c κs =
     let start = c .before .before .before .before .before .before .before in
     let a = start .args in
-    omega (arith, text-ends (a .limits) (a .counts) (a .words .now) (start .pre .0) (a .slot) (start .pre .1), c .before .before .before .make-room .ensures .0)
+    let made = c .before .before .before .make-room in
+    omega (arith, text-ends (a .limits) (a .counts) (a .words .now) (start .pre .0) (a .slot) (start .pre .1), starts (a .limits) (a .counts) (a .words .now) (a .slot) (made .result) (made .ensures .0))
 
 same-length : tie.Need-same-length
 same-length c = search needs
@@ -33,7 +40,8 @@ same-length c = search needs
 returns : tie.Need-returns
 returns c =
     let a = c .before .before .before .before .before .before .before .before .before .before .args in
-    written (a .limits) (a .counts) (a .words .now) (a .slot) (a .text .now) _ _ _ (c .before .before .before .before .before .before .make-room .ensures .0) (c .before .before .before .before .before .before .make-room .ensures .1) (c .before .before .write-bytes .ensures)
+    let made = c .before .before .before .before .before .before .make-room in
+    written (a .limits) (a .counts) (a .words .now) (a .slot) (made .result) (made .ensures .0) (a .text .now) _ _ (made .ensures .1) (c .before .before .write-bytes .ensures)
 
 pub put-text-spec : {M : Type 1} → statement M
 put-text-spec = tie.close (tie.spec make-room-requires write-bytes-requires same-length returns)

@@ -34,7 +34,7 @@ returns : tie.Need-returns
 returns c =
     let start = c .before .before .before .before .before .before .before .before .before .before in
     let a = start .args in
-    reused-to (a .limits) (a .counts) (a .words .now) (start .pre .0) (start .pre .1) (a .text .now) _ (start .pre .2) (start .pre .3) (c .before .before .before .put-text .ensures)
+    reused-to (a .limits) (a .counts) (a .words .now) (start .pre .0) (start .pre .1) (a .text .now) _ (start .pre .2) (start .pre .3) (c .before .before .before .put-text .ensures .1)
 
 pub reuse-slot-spec : {M : Type 1} → statement M
 reuse-slot-spec =

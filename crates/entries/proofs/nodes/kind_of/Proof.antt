@@ -1,0 +1,20 @@
+-- `entries::nodes::kind_of` meets its contract.
+-- Assumes nothing.
+use mathlib.Core.Path.{_∙_}
+use native.Mathlib.Omega.{arith}
+use Rattle.entries.proofs.Words.{live-below, kind-word}
+use Rattle.entries.proofs.nodes.kind_of.Statement.{statement}
+use Rattle.entries.proofs.nodes.kind_of.Tie as tie
+
+record-word-requires : tie.Need-record-word-requires
+record-word-requires c κs =
+    let s = c .before in
+    (s .pre .0, live-below (s .args .d) (s .args .mem .now) (s .args .s) (s .pre .1), omega arith)
+
+returns : tie.Need-returns
+returns c =
+    let s = c .before .before in
+    c .record-word .ensures ∙ kind-word (s .args .d) (s .args .mem .now) (s .args .s) (s .pre .1)
+
+pub kind-of-spec : {M : Type 1} → statement M
+kind-of-spec = tie.close (tie.spec record-word-requires returns)
