@@ -1,0 +1,63 @@
+-- `exports::read::oxml_children` meets its contract.
+-- Assumes nothing.
+use lib.ListN.{length}
+use Prim.Native.Nat.{ℕ}
+use Rattle.model.specs.Kinds.{children}
+use Rattle.model.specs.Calls.{children-of}
+use Rattle.exports.specs.Given.{listWords}
+use Rattle.exports.specs.Contract.{asList}
+use Rattle.exports.proofs.Records.{whole}
+use Rattle.exports.proofs.Reading.{tells-list, read-word, read-short, shows}
+use borrow.Author.Needs.{needs}
+use Rattle.exports.proofs.read.oxml_children.Statement.{statement}
+use Rattle.exports.proofs.read.oxml_children.Tie as tie
+
+lent-record-requires : tie.Need-lent-record-requires
+lent-record-requires c κs = search needs
+
+enum-told : tie.Need-enum-told
+enum-told c = search needs
+
+enum-known-d : tie.Need-enum-known-d
+enum-known-d c = search needs
+
+id-of-requires : tie.Need-id-of-requires
+id-of-requires c κs = search needs
+
+children-requires : tie.Need-children-requires
+children-requires c κs = search needs
+
+give-list-requires : tie.Need-give-list-requires
+give-list-requires c κs =
+    let s = c .before .before .before .before .before .before .before .before .before .before in
+    (whole (s .args .document .now) (length (s .args .answer .now)) 2 _ _ (c .before .before .before .before .before .before .lent-record .ensures) (c .before .before .before .before .d .given .1)) .enough
+
+returns : tie.Need-returns
+returns c =
+    let s = c .before .before .before .before .before .before in
+    read-short (children-of (s .args .id)) 2 (asList children) (s .args .document .now) (s .args .memory .now) (s .args .answer .now) _ (c .before .before .lent-record .ensures) (c .enum-told .given .1)
+
+same-length : tie.Need-same-length
+same-length c = search needs
+
+returns-2 : tie.Need-returns-2
+returns-2 c =
+    let s = c .before .before .before .before .before .before .before .before .before .before .before .before .before in
+    shows (children-of (s .args .id)) 2 (asList children) (s .args .document .now) (s .args .memory .now) (s .args .answer .now) (c .before .before .before .before .before .before .before .d .given .0 .0) (whole (s .args .document .now) (length (s .args .answer .now)) 2 _ _ (c .before .before .before .before .before .before .before .before .before .lent-record .ensures) (c .before .before .before .before .before .before .before .d .given .1)) (listWords (c .before .before .before .before .children .result)) _ _ _
+    (tells-list (c .before .before .before .before .before .before .before .d .given .0 .0) (s .args .memory .now) children (c .before .before .before .before .children .result))
+    (read-word (λ (h : ℕ). children-of h) (s .args .id) _ (c .before .before .before .before .before .id-of .ensures) _ _ _ (c .before .before .before .before .children .ensures))
+    (c .before .before .give-list .ensures)
+
+pub oxml-children-spec : {M : Type 1} → statement M
+oxml-children-spec =
+    tie.close
+    (tie.spec
+    lent-record-requires
+    enum-told
+    enum-known-d
+    id-of-requires
+    children-requires
+    give-list-requires
+    returns
+    same-length
+    returns-2)

@@ -1,0 +1,53 @@
+-- `exports::show::oxml_entries` meets its contract.
+-- Assumes nothing.
+use Rattle.memory.specs.declared.layout.Document.{Document}
+use Rattle.exports.specs.Records.{documentOf}
+use Rattle.blocks.specs.Arena.{block}
+use Rattle.exports.specs.Contract.{entriesTold}
+use Rattle.exports.proofs.Records.{whole}
+use Rattle.exports.proofs.Showing.{shows-none, shows-part}
+use borrow.Author.Needs.{needs}
+use Rattle.exports.proofs.show.oxml_entries.Statement.{statement}
+use Rattle.exports.proofs.show.oxml_entries.Tie as tie
+
+lent-record-requires : tie.Need-lent-record-requires
+lent-record-requires c κs = search needs
+
+enum-told : tie.Need-enum-told
+enum-told c = search needs
+
+enum-known-d : tie.Need-enum-known-d
+enum-known-d c = search needs
+
+show-entries-requires : tie.Need-show-entries-requires
+show-entries-requires c κs = search needs
+
+give-requires : tie.Need-give-requires
+give-requires c κs = search needs
+
+returns : tie.Need-returns
+returns c =
+    let s = c .before .before .before .before .before .before in
+    shows-none (s .args .document .now) (entriesTold (s .args .arena) (block (s .args .start) (s .args .len)) (documentOf (s .args .document .now)) (s .args .memory .now)) (s .args .out .now) _ (c .before .before .lent-record .ensures) (c .enum-told .given .1)
+
+same-length : tie.Need-same-length
+same-length c = search needs
+
+returns-2 : tie.Need-returns-2
+returns-2 c =
+    let s = c .before .before .before .before .before .before .before .before .before .before .before .before in
+    shows-part (s .args .document .now) (c .before .before .before .before .before .before .d .given .0 .0) (whole (s .args .document .now) 0 0 _ _ (c .before .before .before .before .before .before .before .before .lent-record .ensures) (c .before .before .before .before .before .before .d .given .1)) (λ (d : Document). entriesTold (s .args .arena) (block (s .args .start) (s .args .len)) d (s .args .memory .now)) _ (s .args .out .now) _ _
+    (c .before .before .before .before .show-entries .ensures) (c .before .before .give .ensures)
+
+pub oxml-entries-spec : {M : Type 1} → statement M
+oxml-entries-spec =
+    tie.close
+    (tie.spec
+    lent-record-requires
+    enum-told
+    enum-known-d
+    show-entries-requires
+    give-requires
+    returns
+    same-length
+    returns-2)
