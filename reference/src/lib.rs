@@ -7,11 +7,15 @@ extern crate alloc;
 include!(concat!(env!("OUT_DIR"), "/originals.rs"));
 
 mod answers;
+#[cfg(feature = "port")]
+mod bench;
 mod calls;
 mod chars;
 mod check;
 mod choose;
 mod coverage;
+#[cfg(feature = "port")]
+mod damage;
 mod driver;
 mod dump;
 mod generate;
@@ -21,6 +25,8 @@ mod memory;
 mod noise;
 mod parse;
 mod plain;
+#[cfg(feature = "port")]
+mod port;
 mod profiles;
 mod random;
 mod rules;
@@ -30,7 +36,13 @@ mod state;
 mod tests;
 mod texts;
 
+#[cfg(feature = "port")]
+pub use bench::{Benchmark, bench};
+#[cfg(feature = "port")]
+pub use damage::{Tally, damage};
 pub use generate::{generate, profiles};
 pub use judge::judge;
 pub use memory::Memory;
+#[cfg(feature = "port")]
+pub use run::run_port;
 pub use run::{Options, Report, run};

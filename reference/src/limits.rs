@@ -87,7 +87,7 @@ impl Limits {
             + self.name_bytes
     }
 
-    fn scratch_words(&self) -> u64 {
+    pub(crate) fn scratch_words(&self) -> u64 {
         4 * self.nodes + self.entries.iter().sum::<u64>() + self.texts
     }
 }

@@ -5,7 +5,7 @@ use crate::limits::{GREATEST, Limits, OWN};
 use crate::parse::parse;
 use crate::rules;
 use crate::state::{Arena, ArenaState, Block, Data, Node, Slot, State, Text};
-use crate::tree::NodeId;
+use crate::tree::{Document, NodeId};
 
 /// The record that goes with a memory, and its words.
 #[derive(Clone, Debug, PartialEq, Eq)]
@@ -28,7 +28,7 @@ struct Regions {
     order: usize,
     ids: [usize; 3],
     capacities: [usize; 3],
-    text_lengths: usize,
+    text_ends: usize,
     free_texts: usize,
     text_bytes: usize,
     name_lengths: usize,
@@ -47,8 +47,8 @@ impl Regions {
         let entries = limits.entries.map(size);
         let first = 15 * nodes;
         let ids = [first, first + 2 * entries[0], first + 2 * (entries[0] + entries[1])];
-        let text_lengths = ids[2] + 2 * entries[2];
-        let text_bytes = text_lengths + 2 * size(limits.texts);
+        let text_ends = ids[2] + 2 * entries[2];
+        let text_bytes = text_ends + 2 * size(limits.texts);
         let name_lengths = text_bytes + size(limits.text_bytes);
         let name_bytes = name_lengths + 2 * size(limits.names);
         Regions {
@@ -57,8 +57,8 @@ impl Regions {
             order: 14 * nodes,
             ids,
             capacities: [ids[0] + entries[0], ids[1] + entries[1], ids[2] + entries[2]],
-            text_lengths,
-            free_texts: text_lengths + size(limits.texts),
+            text_ends,
+            free_texts: text_ends + size(limits.texts),
             text_bytes,
             name_lengths,
             name_bytes,
@@ -75,24 +75,25 @@ impl Memory {
         for line in list.lines().filter_map(|line| parse(line.as_bytes())) {
             reference.answer(&line);
         }
-        let state = State::of(&reference.document);
+        Memory::of(&reference.document, &reference.limits)
+    }
+
+    /// The same of a document that the Rust holds.
+    pub(crate) fn of(document: &Document, limits: &Limits) -> Memory {
+        let state = State::of(document);
         Memory {
-            limits: reference.limits.numbers(),
+            limits: limits.numbers(),
             counts: counts(&state),
             current: state.order.is_some(),
-            words: words(&state, &reference.limits),
+            words: words(&state, limits),
         }
     }
 
     /// The numbers of the rules that the memory breaks; none at all where test 4 refuses its limits or its length.
     #[must_use]
     pub fn broken_rules(&self) -> Option<Vec<usize>> {
-        let limits =
-            Limits::from_numbers(&self.limits).filter(|limits| limits.nodes > 0 && limits.within(&GREATEST))?;
-        let regions = Regions::of(&limits);
-        let words = self.words.get(..regions.end)?;
-        let reader = Reader { limits, counts: self.counts, regions, words };
-        let mut broken = rules::broken(&reader.state(self.current), &limits);
+        let reader = self.reader()?;
+        let mut broken = rules::broken(&reader.state(self.current), &reader.limits);
         for (number, holds) in [(1, reader.counts_and_order_fit()), (8, reader.lengths_add())] {
             if !holds && !broken.contains(&number) {
                 broken.push(number);
@@ -100,6 +101,67 @@ impl Memory {
         }
         broken.sort_unstable();
         Some(broken)
+    }
+
+    /// The document that words which keep the rules hold, its bytes too; none where test 4 refuses them.
+    #[cfg(feature = "port")]
+    pub(crate) fn state(&self) -> Option<State> {
+        let reader = self.reader()?;
+        let mut state = reader.state(self.current);
+        let texts = reader.part(reader.regions.text_bytes, reader.count(7));
+        fill(state.texts.iter_mut(), texts);
+        let names = reader.part(reader.regions.name_bytes, reader.count(9));
+        fill(state.names.iter_mut().flat_map(|(namespace, local)| [namespace, local]), names);
+        for text in state.slots.iter_mut().filter_map(|slot| slot.node.as_mut()).flat_map(|node| node.data.texts_mut())
+        {
+            text.bytes = text.slot.map(|slot| state.texts[size(slot)].clone()).unwrap_or_default();
+        }
+        Some(state)
+    }
+
+    /// How many words of scratch the limits ask for; 0 where test 4 refuses them.
+    #[cfg(feature = "port")]
+    pub(crate) fn scratch_words(&self) -> usize {
+        self.reader().map_or(0, |reader| size(reader.limits.scratch_words()))
+    }
+
+    /// Whether a word that is not in use yet, and that a call may take into use as it stands, is too wide for its field: the order words of slots
+    /// that were not made, and the capacities beyond an arena's length.
+    #[cfg(feature = "port")]
+    pub(crate) fn has_wide_words_to_come(&self) -> bool {
+        let Some(reader) = self.reader() else { return false };
+        let nodes = size(reader.limits.nodes);
+        let order = &reader.part(reader.regions.order, nodes)[reader.count(0)..];
+        let capacities = (0..3).flat_map(|arena| {
+            let all = reader.part(reader.regions.capacities[arena], size(reader.limits.entries[arena]));
+            &all[reader.count(2 + arena)..]
+        });
+        order.iter().chain(capacities).any(|word| !is_narrow(*word))
+    }
+
+    /// Start and length of each run of words in use.
+    #[cfg(feature = "port")]
+    pub(crate) fn parts_in_use(&self) -> Vec<(usize, usize)> {
+        let Some(reader) = self.reader() else { return Vec::new() };
+        let Regions { free, records, order, ids, capacities, .. } = reader.regions;
+        let Regions { text_ends, free_texts, text_bytes, name_lengths, name_bytes, .. } = reader.regions;
+        let count = |number: usize| reader.count(number);
+        let made = count(0);
+        let mut parts = vec![(0, made), (free, count(1)), (records, RECORD * made), (order, made)];
+        for arena in 0..3 {
+            parts.extend([(ids[arena], count(2 + arena)), (capacities[arena], count(2 + arena))]);
+        }
+        parts.extend([(text_ends, count(5)), (free_texts, count(6)), (text_bytes, count(7))]);
+        parts.extend([(name_lengths, 2 * count(8)), (name_bytes, count(9))]);
+        parts
+    }
+
+    fn reader(&self) -> Option<Reader<'_>> {
+        let limits =
+            Limits::from_numbers(&self.limits).filter(|limits| limits.nodes > 0 && limits.within(&GREATEST))?;
+        let regions = Regions::of(&limits);
+        let words = self.words.get(..regions.end)?;
+        Some(Reader { limits, counts: self.counts, regions, words })
     }
 }
 
@@ -133,8 +195,9 @@ impl Reader<'_> {
         fit && self.part(self.regions.order, self.count(0)).iter().all(|word| is_narrow(*word))
     }
 
-    fn text_lengths(&self) -> &[u64] {
-        self.part(self.regions.text_lengths, self.count(5))
+    /// Where the text of each slot ends, counted from the first byte. It begins where the one before ends.
+    fn text_ends(&self) -> &[u64] {
+        self.part(self.regions.text_ends, self.count(5))
     }
 
     fn name_lengths(&self) -> &[u64] {
@@ -142,7 +205,7 @@ impl Reader<'_> {
     }
 
     fn lengths_add(&self) -> bool {
-        add_to(self.text_lengths(), self.counts[7]) && add_to(self.name_lengths(), self.counts[9])
+        reach(self.text_ends(), self.counts[7]) && add_to(self.name_lengths(), self.counts[9])
     }
 
     fn state(&self, current: bool) -> State {
@@ -152,7 +215,7 @@ impl Reader<'_> {
             slots: (0..made).map(|slot| self.slot(slot)).collect(),
             free: self.part(self.regions.free, self.count(1)).to_vec(),
             arenas: Arena::ALL.map(|arena| self.arena(arena)),
-            texts: pieces(self.text_lengths()),
+            texts: pieces(&lengths(self.text_ends())),
             free_texts: self.part(self.regions.free_texts, self.count(6)).to_vec(),
             text_bytes: self.counts[7],
             names: names.chunks(2).map(|pair| (pair[0].clone(), pair[1].clone())).collect(),
@@ -244,6 +307,17 @@ fn data(kind: u64, name: u64, first: Text, second: Text) -> Data {
     }
 }
 
+/// No end is below the one before, and the last is the number of bytes used.
+fn reach(ends: &[u64], used: u64) -> bool {
+    ends.is_sorted() && ends.last().copied().unwrap_or(0) == used
+}
+
+/// The lengths of texts with these ends; none where an end is below the one before.
+fn lengths(ends: &[u64]) -> Vec<u64> {
+    let starts = std::iter::once(0).chain(ends.iter().copied());
+    ends.iter().zip(starts).map(|(end, start)| end.saturating_sub(start)).collect()
+}
+
 fn add_to(lengths: &[u64], total: u64) -> bool {
     lengths.iter().map(|length| u128::from(*length)).sum::<u128>() == u128::from(total)
 }
@@ -252,6 +326,17 @@ fn add_to(lengths: &[u64], total: u64) -> bool {
 fn pieces(lengths: &[u64]) -> Vec<Vec<u8>> {
     let most = GREATEST.text_bytes;
     lengths.iter().map(|length| vec![0; if *length <= most { size(*length) } else { 1 }]).collect()
+}
+
+/// Puts the bytes, one a word, into pieces of their lengths, one after another.
+#[cfg(feature = "port")]
+fn fill<'a>(pieces: impl Iterator<Item = &'a mut Vec<u8>>, words: &[u64]) {
+    let mut bytes = words.iter().map(|word| (word & 0xff) as u8);
+    for piece in pieces {
+        for byte in piece {
+            *byte = bytes.next().unwrap_or(0);
+        }
+    }
 }
 
 // ---- to words
@@ -284,8 +369,11 @@ fn words(state: &State, limits: &Limits) -> Vec<u64> {
     put(&mut words, regions.free_texts, &state.free_texts);
     let names: Vec<Vec<u8>> =
         state.names.iter().flat_map(|(namespace, local)| [namespace.clone(), local.clone()]).collect();
-    put_pieces(&mut words, regions.text_lengths, regions.text_bytes, &state.texts);
-    put_pieces(&mut words, regions.name_lengths, regions.name_bytes, &names);
+    put(&mut words, regions.text_ends, &ends(&state.texts));
+    put_bytes(&mut words, regions.text_bytes, &state.texts);
+    let lengths: Vec<u64> = names.iter().map(|part| part.len() as u64).collect();
+    put(&mut words, regions.name_lengths, &lengths);
+    put_bytes(&mut words, regions.name_bytes, &names);
     words
 }
 
@@ -302,12 +390,19 @@ fn put_blocks(words: &mut [u64], regions: &Regions, node: &Node) {
     }
 }
 
-/// Lengths, and one byte a word.
-fn put_pieces(words: &mut [u64], lengths: usize, bytes: usize, pieces: &[Vec<u8>]) {
-    let all: Vec<u64> = pieces.iter().map(|piece| piece.len() as u64).collect();
-    put(words, lengths, &all);
+fn ends(texts: &[Vec<u8>]) -> Vec<u64> {
+    let mut end = 0;
+    let mut next = |text: &Vec<u8>| {
+        end += text.len() as u64;
+        end
+    };
+    texts.iter().map(&mut next).collect()
+}
+
+/// One byte a word.
+fn put_bytes(words: &mut [u64], start: usize, pieces: &[Vec<u8>]) {
     let joined: Vec<u64> = pieces.concat().into_iter().map(u64::from).collect();
-    put(words, bytes, &joined);
+    put(words, start, &joined);
 }
 
 fn handle_word(id: NodeId) -> u64 {

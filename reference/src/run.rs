@@ -32,23 +32,58 @@ pub struct Report {
 /// # Errors
 ///
 /// Those of reading and writing.
-pub fn run(mut input: impl BufRead, mut output: impl Write, options: Options) -> io::Result<Report> {
+pub fn run(input: impl BufRead, output: impl Write, options: Options) -> io::Result<Report> {
     let mut session = Session::new(options);
+    answer_lines(input, output, |line, number| {
+        let answer = session.line(line, number);
+        (answer, session.report.fault.is_none())
+    })?;
+    Ok(session.finish())
+}
+
+/// The same by the port, through its static library.
+///
+/// # Errors
+///
+/// Those of reading and writing, and the refusal of the program's own limits.
+#[cfg(feature = "port")]
+pub fn run_port(input: impl BufRead, output: impl Write) -> io::Result<()> {
+    let mut port = crate::port::Port::fresh(&OWN).map_err(io::Error::other)?;
+    answer_lines(input, output, |line, number| {
+        let answer = (!is_passed_over(line))
+            .then(|| parse(line).map_or_else(|| format!("? {number}"), |line| port.answer(&line).to_string()));
+        (answer, true)
+    })
+}
+
+/// Each line with its number is answered, or not; until there is none, or the answer says to stop.
+fn answer_lines(
+    mut input: impl BufRead,
+    mut output: impl Write,
+    mut answer: impl FnMut(&[u8], u64) -> (Option<String>, bool),
+) -> io::Result<()> {
     let mut line = Vec::new();
     let mut number = 0;
-    while session.report.fault.is_none() && input.read_until(b'\n', &mut line)? > 0 {
+    let mut more = true;
+    while more && input.read_until(b'\n', &mut line)? > 0 {
         number += 1;
         if line.last() == Some(&b'\n') {
             line.pop();
         }
-        if let Some(answer) = session.line(&line, number) {
-            output.write_all(answer.as_bytes())?;
+        let (text, goes_on) = answer(&line, number);
+        if let Some(text) = text {
+            output.write_all(text.as_bytes())?;
             output.write_all(b"\n")?;
         }
+        more = goes_on;
         line.clear();
     }
-    output.flush()?;
-    Ok(session.finish())
+    output.flush()
+}
+
+/// An empty line or a comment, unless it is too long to be read.
+fn is_passed_over(line: &[u8]) -> bool {
+    line.len() <= LONGEST && (line.is_empty() || line[0] == b'#')
 }
 
 struct Session {
@@ -69,9 +104,9 @@ impl Session {
         }
     }
 
-    /// The answer to a line; none to an empty one and to a comment, unless it is too long to be read.
+    /// The answer to a line; none to one that is passed over.
     fn line(&mut self, line: &[u8], number: u64) -> Option<String> {
-        if line.len() <= LONGEST && (line.is_empty() || line[0] == b'#') {
+        if is_passed_over(line) {
             return None;
         }
         let Some(line) = parse(line) else {

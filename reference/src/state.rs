@@ -97,6 +97,17 @@ impl Data {
         }
     }
 
+    #[cfg(feature = "port")]
+    pub(crate) fn texts_mut(&mut self) -> Vec<&mut Text> {
+        match self {
+            Data::Root | Data::Element { .. } => Vec::new(),
+            Data::Attr { value: text, .. } | Data::Text(text) | Data::Comment(text) => vec![text],
+            Data::Namespace { prefix: first, uri: second } | Data::Pi { target: first, data: second } => {
+                vec![first, second]
+            }
+        }
+    }
+
     /// The arena of the block in which a parent lists a node of this kind.
     pub(crate) fn listed_in(&self) -> Arena {
         match self {

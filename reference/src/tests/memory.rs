@@ -63,8 +63,12 @@ fn each_rule_is_seen_in_the_words() {
     breaks(&[5], |memory| memory.words[24 + 2 * 12 + 6] = 17);
     // e under c: a cycle.
     breaks(&[4, 6], |memory| memory.words[24 + 12 + 4] = 3);
-    // Lengths, and the name of e.
+    // Lengths, and the name of e. 244 is the first of the ends 1, 2, 3, 4, 4, 5: one that falls, one that gives the free slot 4 a byte, and one that gives the
+    // byte of slot 1 to slot 0, which no rule minds.
     breaks(&[8], |memory| memory.counts[9] = 4);
+    breaks(&[8], |memory| memory.words[244 + 1] = 0);
+    breaks(&[8], |memory| memory.words[244 + 4] = 5);
+    breaks(&[], |memory| memory.words[244] = 2);
     breaks(&[8], |memory| memory.words[24 + 12 + 1] = 3);
 }
 
