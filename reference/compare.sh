@@ -17,6 +17,8 @@ here=$(cd "$(dirname "$0")" && pwd)
 programs=$here/target/release
 kept=$here/target/compare
 mkdir -p "$kept"
+# A loop over the names of no profile would compare nothing and end well.
+profiles=$("$programs/generate")
 
 compare() { # SEED PROFILE
     local list=$kept/$2-$1.calls
@@ -33,7 +35,7 @@ compare() { # SEED PROFILE
 
 calls=0
 for ((seed = first; seed <= last; seed++)); do
-    for profile in $("$programs/generate"); do
+    for profile in $profiles; do
         compare "$seed" "$profile"
     done
 done
