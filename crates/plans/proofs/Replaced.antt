@@ -10,7 +10,7 @@ use native.Mathlib.Decide.{decLt}
 use lib.ListN.{length, take, drop, List·getD-eq-default}
 use lib.Dec.{eqb}
 use borrow.Author.Tests.{eqb-true}
-use Rattle.words.specs.declared.pieces.Place.{Place}
+use Rattle.words.specs.declared.ends.Place.{Place}
 use Rattle.words.proofs.Parts.{lent}
 use Rattle.words.proofs.Tests.{and-left}
 use Rattle.slots.specs.Handles.{wordOf, handleIndex}

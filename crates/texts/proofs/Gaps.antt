@@ -15,7 +15,7 @@ use Rattle.words.proofs.Parts.{part-none, length-part}
 use Rattle.words.proofs.Lists.{length-tabulate}
 use Rattle.words.proofs.Joined.{length-joined-snoc}
 use Rattle.texts.specs.Pool.{bytesOf}
-use Rattle.texts.specs.Ends.{startOf, lengthOf, lengthsOf}
+use Rattle.words.specs.Ends.{startOf, lengthOf, lengthsOf}
 use Rattle.texts.specs.Words.{bytesAt, poolOf, Counted, keptText, laid}
 use Rattle.texts.specs.declared.TextLimits.{TextLimits}
 use Rattle.texts.specs.declared.TextCounts.{TextCounts}

@@ -20,7 +20,7 @@ use Rattle.words.proofs.Lists.{length-tabulate, getD-tabulate}
 use Rattle.words.proofs.Lengths.{pieces-same}
 use Rattle.texts.specs.Pool.{Pool, bytesOf, released, pushed, emptied, reclaimed}
 use Rattle.texts.specs.Rule.{FreeTexts}
-use Rattle.texts.specs.Ends.{lengthsOf, endsReach}
+use Rattle.words.specs.Ends.{lengthsOf, endsReach}
 use Rattle.texts.specs.Words.{bytesAt, poolOf, Counted, PushedTo, Markable, marked, keptText, laid, Reclaimable, ReclaimedTo}
 use Rattle.texts.specs.declared.TextLimits.{TextLimits}
 use Rattle.texts.specs.declared.TextCounts.{TextCounts}

@@ -8,22 +8,21 @@ use Prim.Native.Nat.{ℕ, _+_, _-_, _≤_, _<_, min}
 use native.Mathlib.Decide.{decLt}
 use native.Mathlib.Omega.{arith}
 use lib.ListN.{length, getD, take, length-reverse, List·getD-eq-default}
-use lib.Seq.{length-take-le, getD-take}
 use lib.Dec.{eqb, ltb, leb}
 use borrow.Author.Tests.{le-leb, lt-leb, leb-true, lt-ltb, ltb-true, eqb-true, eq-eqb}
 use Rattle.words.specs.Parts.{part}
 use Rattle.words.specs.Lists.{sum, all, countOf}
 use Rattle.words.proofs.Tests.{and-left, and-right, and-both, leb-same}
 use Rattle.words.proofs.Parts.{part-none, length-part}
-use Rattle.words.proofs.Lengths.{length-pieces, joined-pieces, getD-pieces}
+use Rattle.words.proofs.Reach as reach
+use Rattle.words.proofs.Places.{reach-place}
 use Rattle.texts.specs.Pool.{bytesOf, textAt, textsFit}
 use Rattle.texts.specs.Rule.{FreeTexts}
-use Rattle.texts.specs.Ends.{startOf, lengthOf, lengthsOf, endsReach}
+use Rattle.words.specs.Ends.{startOf, lengthOf, lengthsOf, endsReach}
 use Rattle.texts.specs.Words.{bytesAt, poolOf, Counted, PoolHeld, freeOk, poolOk, placeShown, textShown, countsFit}
 use Rattle.texts.specs.declared.TextLimits.{TextLimits}
 use Rattle.texts.specs.declared.TextCounts.{TextCounts}
-use Rattle.texts.proofs.Ends.{length-lengths, lengths-at, lengths-sum, lengths-start, ends-rise, ends-within, start-taken}
-use Rattle.texts.proofs.Places.{place-there, shown-at, shown-empty}
+use Rattle.texts.proofs.Places.{shown-at, shown-empty}
 use Rattle.texts.proofs.Lists.{all-count, count-all, countOf-reverse}
 
 -- ---- Full
@@ -48,21 +47,18 @@ module _ (limits : TextLimits) (counts : TextCounts) (k off on : ℕ) (s : count
 -- ---- the counts are those of the pool
 
 module _ (limits : TextLimits) (counts : TextCounts) (words : List ℕ) (h : Counted limits counts words) where
-  abbrev ends : List ℕ
-  ends = take (counts .slots) words
-
-  ends-taken : length ends ≡ counts .slots
-  ends-taken = length-take-le (counts .slots) words (omega (arith, h .size))
+  fits : counts .slots ≤ length words
+  fits = omega (arith, h .size)
 
   pub lengths-taken : length (lengthsOf (take (counts .slots) words)) ≡ counts .slots
-  lengths-taken = length-lengths 0 ends ∙ ends-taken
+  lengths-taken = reach.lengths-taken (bytesAt limits) (counts .slots) (counts .bytes) words fits (h .ends)
 
   pub lengths-add : sum (lengthsOf (take (counts .slots) words)) ≡ counts .bytes
-  lengths-add = omega (arith, lengths-sum 0 (counts .bytes) ends (h .ends))
+  lengths-add = reach.lengths-add (bytesAt limits) (counts .slots) (counts .bytes) words fits (h .ends)
 
   pub pool-slots : length (poolOf limits counts words .texts) ≡ counts .slots
   unfolding poolOf
-  pool-slots = length-pieces (bytesAt limits) (lengthsOf ends) words ∙ lengths-taken
+  pool-slots = reach.count-taken (bytesAt limits) (counts .slots) (counts .bytes) words fits (h .ends)
 
   pub pool-free : length (poolOf limits counts words .free) ≡ counts .free
   unfolding poolOf
@@ -70,10 +66,7 @@ module _ (limits : TextLimits) (counts : TextCounts) (words : List ℕ) (h : Cou
 
   pub pool-bytes : length (bytesOf (poolOf limits counts words .texts)) ≡ counts .bytes
   unfolding poolOf
-  pool-bytes =
-      ap length (joined-pieces (bytesAt limits) (lengthsOf ends) words)
-      ∙ length-part words (bytesAt limits) (sum (lengthsOf ends)) (omega (arith, h .size, lengths-add))
-      ∙ lengths-add
+  pool-bytes = reach.bytes-taken (bytesAt limits) (counts .slots) (counts .bytes) words fits (h .ends) (omega (arith, h .size))
 
   pub fits-pool : (k off on : ℕ) → countsFit limits counts k off on ≡ textsFit (limits .slots) (limits .bytes) (poolOf limits counts words) k off on
   unfolding countsFit textsFit
@@ -84,30 +77,27 @@ module _ (limits : TextLimits) (counts : TextCounts) (words : List ℕ) (h : Cou
   module _ (slot : ℕ) (m : slot < counts .slots) where
     -- the end and the length of a slot's text
     pub end-taken : getD (take (counts .slots) words) slot 0 ≡ getD words slot 0
-    end-taken = getD-take (counts .slots) words slot 0 m
+    end-taken = reach.end-taken (bytesAt limits) (counts .slots) (counts .bytes) words fits (h .ends) slot m
 
     pub length-said : getD (take (counts .slots) words) slot 0 - getD (0 ∷ take (counts .slots) words) slot 0 ≡ lengthOf words slot
-    unfolding lengthOf
-    length-said = rw (end-taken, start-taken (counts .slots) words slot (omega arith))
+    length-said = reach.length-said (bytesAt limits) (counts .slots) (counts .bytes) words fits (h .ends) slot m
 
     pub length-taken : getD (lengthsOf (take (counts .slots) words)) slot 0 ≡ lengthOf words slot
-    length-taken = lengths-at 0 ends slot (omega (arith, ends-taken)) ∙ length-said
+    length-taken = reach.length-taken (bytesAt limits) (counts .slots) (counts .bytes) words fits (h .ends) slot m
 
     -- it begins behind the lengths before
     pub start-added : sum (take slot (lengthsOf (take (counts .slots) words))) ≡ startOf words slot
-    start-added =
-        omega (arith, lengths-start 0 (counts .bytes) ends (h .ends) slot (omega (arith, ends-taken)), start-taken (counts .slots) words slot (omega arith))
+    start-added = reach.start-added (bytesAt limits) (counts .slots) (counts .bytes) words fits (h .ends) slot m
 
     -- and ends among the bytes used
     pub text-rises : startOf words slot ≤ getD words slot 0
-    text-rises = omega (arith, ends-rise 0 (counts .bytes) ends (h .ends) slot (omega (arith, ends-taken)), start-taken (counts .slots) words slot (omega arith), end-taken)
+    text-rises = reach.piece-rises (bytesAt limits) (counts .slots) (counts .bytes) words fits (h .ends) slot m
 
     pub text-within : getD words slot 0 ≤ counts .bytes
-    text-within = omega (arith, ends-within 0 (counts .bytes) ends (h .ends) .1 slot (omega (arith, ends-taken)) .1, end-taken)
+    text-within = reach.piece-within (bytesAt limits) (counts .slots) (counts .bytes) words fits (h .ends) slot m
 
     pub text-end : startOf words slot + lengthOf words slot ≡ getD words slot 0
-    unfolding lengthOf
-    text-end = omega (arith, text-rises)
+    text-end = reach.piece-end (bytesAt limits) (counts .slots) (counts .bytes) words fits (h .ends) slot m
 
     pub text-ends : startOf words slot + lengthOf words slot ≤ counts .bytes
     text-ends = omega (arith, text-end, text-within)
@@ -115,9 +105,7 @@ module _ (limits : TextLimits) (counts : TextCounts) (words : List ℕ) (h : Cou
     -- the text of a slot is where the ends say
     pub pool-text : textAt (poolOf limits counts words) (some slot) ≡ part (bytesAt limits + startOf words slot) (lengthOf words slot) words
     unfolding poolOf
-    pool-text =
-        getD-pieces (bytesAt limits) (lengthsOf ends) words slot (rw lengths-taken m)
-        ∙ rw (start-added, length-taken)
+    pool-text = reach.piece-taken (bytesAt limits) (counts .slots) (counts .bytes) words fits (h .ends) slot m
 
     pub text-length : length (textAt (poolOf limits counts words) (some slot)) ≡ lengthOf words slot
     text-length = ap length pool-text ∙ length-part words (bytesAt limits + startOf words slot) (lengthOf words slot) (omega (arith, h .size, text-ends))
@@ -128,7 +116,7 @@ module _ (limits : TextLimits) (counts : TextCounts) (words : List ℕ) (h : Cou
     shown-place =
         let a : min (counts .slots) (limits .slots) ≡ counts .slots = omega (arith, h .slots) in
         let b : min (counts .bytes) (limits .bytes) ≡ counts .bytes = omega (arith, h .bytes) in
-        rw (a, b) (place-there (counts .slots) (counts .bytes) slot words m text-rises text-within)
+        rw (a, b) (reach-place (bytesAt limits) (counts .slots) (counts .bytes) words fits (h .ends) slot m)
 
   pub shown-text : (slot : ℕ) → textShown limits counts slot words ≡ textAt (poolOf limits counts words) (some slot)
   shown-text slot = go (decLt slot (counts .slots))

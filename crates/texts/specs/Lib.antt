@@ -1,4 +1,3 @@
-pub mod Ends
 pub mod Pool
 pub mod Rule
 pub mod Words

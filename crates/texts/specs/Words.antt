@@ -9,10 +9,10 @@ use lib.Dec.{eqb, ltb, leb}
 use Rattle.words.specs.Parts.{part, put}
 use Rattle.words.specs.Lists.{all, countOf}
 use Rattle.words.specs.Pieces.{pieces}
-use Rattle.words.specs.declared.pieces.Place.{Place}
+use Rattle.words.specs.declared.ends.Place.{Place}
 use Rattle.texts.specs.Pool.{Pool, bytesOf, storedSlot, stored, replaced, pushed, reclaimed}
 use Rattle.texts.specs.Rule.{FreeTexts}
-use Rattle.texts.specs.Ends.{startOf, lengthOf, lengthsOf, endsOf, endsReach, movedEnd}
+use Rattle.words.specs.Ends.{startOf, lengthOf, lengthsOf, endsOf, endsReach, movedEnd, piecePlace, pieceShown}
 use Rattle.texts.specs.declared.edits.Stored.{Stored}
 use Rattle.texts.specs.declared.edits.TextField.{TextField}
 use Rattle.texts.specs.declared.edits.TextField.the-variants.{Nothing, Slot}
@@ -64,20 +64,12 @@ marked (s ∷ l) marks = marked l (set marks s (getD marks s 0 + 1))
 
 -- ---- reading, also in damaged memory: "a count above its limit reads as the limit", "an empty text .. for a number outside its table or bytes outside their pool"
 
--- of count texts that have used bytes together, whether that of a slot is one, and its bytes are among those used
-unfoldable pub textThere : ℕ → ℕ → ℕ → List ℕ → Bool
-textThere count used slot words = ltb slot count && (leb (startOf words slot) (getD words slot 0) && leb (getD words slot 0) used)
-
--- where it lies, counted from the first byte
-unfoldable pub textPlace : ℕ → ℕ → ℕ → List ℕ → Place
-textPlace count used slot words =
-    cond (textThere count used slot words) (record { start = startOf words slot; len = lengthOf words slot }) (record { start = 0; len = 0 })
-
+-- where the text of a slot lies, counted from the first byte
 unfoldable pub placeShown : TextLimits → TextCounts → ℕ → List ℕ → Place
-placeShown limits counts slot words = textPlace (min (counts .slots) (limits .slots)) (min (counts .bytes) (limits .bytes)) slot words
+placeShown limits counts slot words = piecePlace (min (counts .slots) (limits .slots)) (min (counts .bytes) (limits .bytes)) slot words
 
 unfoldable pub textShown : TextLimits → TextCounts → ℕ → List ℕ → List ℕ
-textShown limits counts slot words = part (bytesAt limits + placeShown limits counts slot words .start) (placeShown limits counts slot words .len) words
+textShown limits counts slot words = pieceShown (bytesAt limits) (min (counts .slots) (limits .slots)) (min (counts .bytes) (limits .bytes)) slot words
 
 -- ---- Full, of counts within their limits: `textsFit` of the pool
 

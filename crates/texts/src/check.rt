@@ -1,32 +1,14 @@
 // What the pool alone can say of structure rules 1 and 8, and the marks for who counts owners.
 ghost use mathlib.Core.Path.{_≡_};
 ghost use Prim.Native.Nat.{_+_, _≤_};
-ghost use lib.ListN.{length, take};
+ghost use lib.ListN.{length};
 ghost use Rattle.words.specs.Parts.{part};
 ghost use Rattle.words.specs.Lists.{all};
-ghost use Rattle.texts.specs.Ends.{endsReach};
 ghost use Rattle.texts.specs.Words.{bytesAt, freeOk, poolOk, Markable, marked};
 use crate::TextCounts;
 use crate::TextLimits;
-use crate::text_start;
-
-// Whether none of n ends is below the one before, and the last is the number of bytes used.
-fn check_ends(words: &[u64], n: usize, used: usize) -> bool
-    requires { ⌜ n ≤ length (now words) ⌝ }
-    ensures { λ r. ⌜ r ≡ endsReach 0 (take n (now (words .entry))) used ⌝ }
-{
-    let mut last = 0;
-    let mut k = 0;
-    while k < n {
-        let end = words[k];
-        if end < last {
-            return false;
-        }
-        last = end;
-        k += 1;
-    }
-    last == used as u64
-}
+use words::ends::check_ends;
+use words::ends::piece_start;
 
 // Whether each entry of the stack is a slot that was made, of length 0.
 fn check_free(words: &[u64], limits: TextLimits, counts: TextCounts) -> bool
@@ -42,7 +24,7 @@ fn check_free(words: &[u64], limits: TextLimits, counts: TextCounts) -> bool
         if slot >= made as u64 {
             return false;
         }
-        let start = text_start(words, slot as usize);
+        let start = piece_start(words, slot as usize);
         if words[slot as usize] != start {
             return false;
         }

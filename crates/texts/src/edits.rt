@@ -5,12 +5,12 @@ ghost use Prim.Native.Nat.{_+_, _≤_, _<_};
 ghost use lib.ListN.{length};
 ghost use Rattle.words.specs.Parts.{part, put};
 ghost use Rattle.texts.specs.Pool.{slotsFor};
-ghost use Rattle.texts.specs.Ends.{lengthOf};
+ghost use Rattle.words.specs.Ends.{lengthOf};
 ghost use Rattle.texts.specs.Words.{startAt, Counted, PoolHeld, countsFit, Movable, endsMoved, roomed, rewritten, StoredTo, ReplacedTo};
 use crate::TextCounts;
 use crate::TextLimits;
-use crate::text_start;
-use words::pieces::Place;
+use words::ends::Place;
+use words::ends::piece_start;
 
 // What a text field holds: nothing for a text stored empty.
 pub enum TextField {
@@ -64,7 +64,7 @@ fn make_room(
     ensures { λ _. ⌜ now (words .exit) ≡ roomed limits counts (now (words .entry)) slot len ⌝ }
 {
     let used = counts.bytes;
-    let start = text_start(&words[..], slot) as usize;
+    let start = piece_start(&words[..], slot) as usize;
     let old = words[slot] as usize - start;
     let at = limits.slots + limits.slots + start;
     if old != len {

@@ -2,8 +2,7 @@
 ghost use mathlib.Core.Path.{_≡_};
 ghost use Prim.Native.Nat.{_+_, _≤_};
 ghost use lib.ListN.{length};
-ghost use Rattle.texts.specs.Ends.{startOf};
-ghost use Rattle.texts.specs.Words.{bytesAt, textPlace, placeShown, textShown, countsFit};
+ghost use Rattle.texts.specs.Words.{bytesAt, placeShown, textShown, countsFit};
 
 pub mod check;
 pub mod edits;
@@ -22,51 +21,19 @@ pub struct TextCounts {
     pub bytes: usize,
 }
 
-// Where the text of a slot begins, counted from the first byte: where the one before ends.
-pub fn text_start(words: &[u64], slot: usize) -> u64
-    requires { ⌜ slot ≤ length (now words) ⌝ }
-    ensures { λ r. ⌜ r ≡ startOf (now (words .entry)) slot ⌝ }
-{
-    if slot == 0 {
-        return 0;
-    }
-    words[slot - 1]
-}
-
-// Where the text of a slot lies of count texts that have used bytes together; an empty place where it is none of them or lies outside.
-fn locate(words: &[u64], count: usize, used: usize, slot: usize) -> words::pieces::Place
-    requires { ⌜ count ≤ length (now words) ⌝ }
-    ensures { λ r. ⌜ r ≡ textPlace count used slot (now (words .entry)) ⌝ }
-{
-    if slot < count {
-        let start = text_start(words, slot);
-        let end = words[slot];
-        if start <= end {
-            if end <= used as u64 {
-                let len = (end - start) as usize;
-                return words::pieces::Place {
-                    start: start as usize,
-                    len,
-                };
-            }
-        }
-    }
-    words::pieces::Place { start: 0, len: 0 }
-}
-
 // Where the text of a slot lies, counted from the first byte; an empty place for a number outside the table or bytes outside the pool.
 pub fn text_place(
     words: &[u64],
     limits: TextLimits,
     counts: TextCounts,
     slot: usize,
-) -> words::pieces::Place
+) -> words::ends::Place
     requires { ⌜ length (now words) ≡ bytesAt limits + limits .bytes ⌝ }
     ensures { λ r. ⌜ r ≡ placeShown limits counts slot (now (words .entry)) ⌝ }
 {
     let n = words::least(counts.slots, limits.slots);
     let used = words::least(counts.bytes, limits.bytes);
-    locate(words, n, used, slot)
+    words::ends::locate(words, n, used, slot)
 }
 
 // Its bytes, as a part of the pool.
@@ -74,10 +41,9 @@ pub fn read_text(words: &[u64], limits: TextLimits, counts: TextCounts, slot: us
     requires { ⌜ length (now words) ≡ bytesAt limits + limits .bytes ⌝ }
     ensures { λ r. ⌜ now r ≡ textShown limits counts slot (now (words .entry)) ⌝ }
 {
-    let place = text_place(words, limits, counts, slot);
-    let start = limits.slots + limits.slots + place.start;
-    let end = start + place.len;
-    &words[start..end]
+    let n = words::least(counts.slots, limits.slots);
+    let used = words::least(counts.bytes, limits.bytes);
+    words::ends::piece(words, limits.slots + limits.slots, n, used, slot)
 }
 
 // Whether k more text slots, and the bytes once off are given back and on added, are within the limits.

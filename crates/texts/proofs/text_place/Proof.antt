@@ -3,8 +3,9 @@
 use mathlib.Core.Path.{_≡_}
 use mathlib.Core.List.{List}
 use Prim.Native.Nat.{ℕ, min}
-use Rattle.words.specs.declared.pieces.Place.{Place}
-use Rattle.texts.specs.Words.{textPlace, placeShown}
+use Rattle.words.specs.declared.ends.Place.{Place}
+use Rattle.words.specs.Ends.{piecePlace}
+use Rattle.texts.specs.Words.{placeShown}
 use Rattle.texts.specs.declared.TextLimits.{TextLimits}
 use Rattle.texts.specs.declared.TextCounts.{TextCounts}
 use borrow.Author.Needs.{needs}
@@ -12,7 +13,7 @@ use Rattle.texts.proofs.text_place.Statement.{statement}
 use Rattle.texts.proofs.text_place.Tie as tie
 
 shown : (limits : TextLimits) (counts : TextCounts) (slot n used : ℕ) (words : List ℕ) (r : Place) → n ≡ min (counts .slots) (limits .slots) → used ≡ min (counts .bytes) (limits .bytes)
-    → r ≡ textPlace n used slot words → r ≡ placeShown limits counts slot words
+    → r ≡ piecePlace n used slot words → r ≡ placeShown limits counts slot words
 unfolding placeShown
 shown limits counts slot n used words r e f g = rw (e, f) at g
 

@@ -12,7 +12,7 @@ use borrow.Author.Tests.{le-ltb, lt-ltb, eq-eqb, ne-eqb}
 use Rattle.words.specs.Parts.{part}
 use Rattle.words.specs.Lists.{all}
 use Rattle.words.proofs.Parts.{part-none, part-left-cons}
-use Rattle.texts.specs.Ends.{startOf}
+use Rattle.words.specs.Ends.{startOf}
 use Rattle.texts.specs.Words.{freeOk}
 use Rattle.texts.proofs.check.check_free.Statement.{statement}
 use Rattle.texts.proofs.check.check_free.Tie as tie
@@ -73,8 +73,8 @@ returns c =
     let loop = c .before .before .before .loop in
     outside (a .words .now) (a .limits .slots) (a .counts .free) (a .counts .slots) (loop .k) (omega arith) (omega arith) (loop .inv .1) (c .if1 .taken)
 
-text-start-requires : tie.Need-text-start-requires Inv-loop μ-loop
-text-start-requires c κs = omega arith
+piece-start-requires : tie.Need-piece-start-requires Inv-loop μ-loop
+piece-start-requires c κs = omega arith
 
 mul-if2 : tie.Need-mul-if2 Inv-loop μ-loop
 mul-if2 c = omega arith
@@ -86,7 +86,7 @@ returns-2 : tie.Need-returns-2 Inv-loop μ-loop
 returns-2 c =
     let a = c .before .before .before .before .before .before .before .before .args in
     let loop = c .before .before .before .before .before .before .loop in
-    holds-bytes (a .words .now) (a .limits .slots) (a .counts .free) (a .counts .slots) (loop .k) (omega arith) (omega arith) (loop .inv .1) (c .before .before .text-start .result) (c .before .before .text-start .ensures) (c .if2 .taken)
+    holds-bytes (a .words .now) (a .limits .slots) (a .counts .free) (a .counts .slots) (loop .k) (omega arith) (omega arith) (loop .inv .1) (c .before .before .piece-start .result) (c .before .before .piece-start .ensures) (c .if2 .taken)
 
 add-k : tie.Need-add-k Inv-loop μ-loop
 add-k c = omega arith
@@ -98,7 +98,7 @@ loop-again : tie.Need-loop-again Inv-loop μ-loop
 loop-again c =
     let a = c .before .before .before .before .before .before .before .before .args in
     let loop = c .before .before .before .before .before .before .loop in
-    (omega arith, next (a .words .now) (a .limits .slots) (a .counts .free) (a .counts .slots) (loop .k) (omega arith) (omega arith) (loop .inv .1) (c .before .before .text-start .result) (c .before .before .text-start .ensures) (c .before .before .before .if1 .left) (c .if2 .left))
+    (omega arith, next (a .words .now) (a .limits .slots) (a .counts .free) (a .counts .slots) (loop .k) (omega arith) (omega arith) (loop .inv .1) (c .before .before .piece-start .result) (c .before .before .piece-start .ensures) (c .before .before .before .if1 .left) (c .if2 .left))
 
 returns-3 : tie.Need-returns-3 Inv-loop μ-loop
 returns-3 c =
@@ -117,7 +117,7 @@ check-free-spec =
     mul-slot
     shared-slice-read-slot
     returns
-    text-start-requires
+    piece-start-requires
     mul-if2
     shared-slice-read-if2
     returns-2

@@ -6,8 +6,8 @@ use Prim.Native.Nat.{ℕ, _+_, _-_, _≤_, _<_}
 use native.Mathlib.Omega.{arith}
 use lib.ListN.{getD}
 use Rattle.words.specs.Parts.{part, put}
-use Rattle.words.specs.declared.pieces.Place.{Place}
-use Rattle.texts.specs.Ends.{startOf, lengthOf}
+use Rattle.words.specs.declared.ends.Place.{Place}
+use Rattle.words.specs.Ends.{startOf, lengthOf}
 use Rattle.texts.specs.Words.{bytesAt, Counted, startAt, Movable, endsMoved, bytesMoved, roomed}
 use Rattle.texts.specs.declared.TextLimits.{TextLimits}
 use Rattle.texts.specs.declared.TextCounts.{TextCounts}
@@ -57,8 +57,8 @@ module _ (limits : TextLimits) (counts : TextCounts) (words : List ℕ) (slot st
     none-moved : getD words slot 0 - start ≡ len → words ≡ roomed limits counts words slot len
     none-moved q = sym (roomed-same limits counts words h slot m len (sym held ∙ q))
 
-text-start-requires : tie.Need-text-start-requires
-text-start-requires c κs = search needs
+piece-start-requires : tie.Need-piece-start-requires
+piece-start-requires c κs = search needs
 
 mul-old : tie.Need-mul-old
 mul-old c = search needs
@@ -70,7 +70,7 @@ sub-old : tie.Need-sub-old
 sub-old c =
     let start = c .before .before .before .before in
     let a = start .args in
-    let told = c .before .text-start in
+    let told = c .before .piece-start in
     omega (arith, begins (a .limits) (a .counts) (a .words .now) (a .slot) (told .result) (start .pre .0) (start .pre .1) (told .ensures))
 
 add-at : tie.Need-add-at
@@ -80,42 +80,42 @@ add-at-2 : tie.Need-add-at-2
 add-at-2 c =
     let start = c .before .before .before .before .before in
     let a = start .args in
-    let told = c .before .before .text-start in
+    let told = c .before .before .piece-start in
     omega (arith, begins (a .limits) (a .counts) (a .words .now) (a .slot) (told .result) (start .pre .0) (start .pre .1) (told .ensures))
 
 add-shift : tie.Need-add-shift
 add-shift c =
     let start = c .before .before .before .before .before .before .before in
     let a = start .args in
-    let told = c .before .before .before .before .text-start in
+    let told = c .before .before .before .before .piece-start in
     omega (arith, begins (a .limits) (a .counts) (a .words .now) (a .slot) (told .result) (start .pre .0) (start .pre .1) (told .ensures))
 
 sub-shift : tie.Need-sub-shift
 sub-shift c =
     let start = c .before .before .before .before .before .before .before in
     let a = start .args in
-    let told = c .before .before .before .before .text-start in
+    let told = c .before .before .before .before .piece-start in
     omega (arith, begins (a .limits) (a .counts) (a .words .now) (a .slot) (told .result) (start .pre .0) (start .pre .1) (told .ensures))
 
 sub-shift-2 : tie.Need-sub-shift-2
 sub-shift-2 c =
     let start = c .before .before .before .before .before .before .before in
     let a = start .args in
-    let told = c .before .before .before .before .text-start in
+    let told = c .before .before .before .before .piece-start in
     omega (arith, begins (a .limits) (a .counts) (a .words .now) (a .slot) (told .result) (start .pre .0) (start .pre .1) (told .ensures))
 
 add-shift-2 : tie.Need-add-shift-2
 add-shift-2 c =
     let start = c .before .before .before .before .before .before .before in
     let a = start .args in
-    let told = c .before .before .before .before .text-start in
+    let told = c .before .before .before .before .piece-start in
     omega (arith, begins (a .limits) (a .counts) (a .words .now) (a .slot) (told .result) (start .pre .0) (start .pre .1) (told .ensures), held (a .limits) (a .counts) (a .words .now) (a .slot) (told .result) (start .pre .0) (start .pre .1) (told .ensures))
 
 shift-requires : tie.Need-shift-requires
 shift-requires c κs =
     let start = c .before .before .before .before .before .before .before in
     let a = start .args in
-    let told = c .before .before .before .before .text-start in
+    let told = c .before .before .before .before .piece-start in
     omega (arith, begins (a .limits) (a .counts) (a .words .now) (a .slot) (told .result) (start .pre .0) (start .pre .1) (told .ensures), held (a .limits) (a .counts) (a .words .now) (a .slot) (told .result) (start .pre .0) (start .pre .1) (told .ensures))
 
 sub-move-ends : tie.Need-sub-move-ends
@@ -125,7 +125,7 @@ move-ends-requires : tie.Need-move-ends-requires
 move-ends-requires c κs =
     let start = c .before .before .before .before .before .before .before .before .before .before .before .before in
     let a = start .args in
-    let told = c .before .before .before .before .before .before .before .before .before .text-start in
+    let told = c .before .before .before .before .before .before .before .before .before .piece-start in
     movable (a .limits) (a .counts) (a .words .now) (a .slot) (told .result) (start .pre .0) (start .pre .1) (told .ensures) (a .len) (start .pre .2) (omega arith) (c .before .before .before .before .shift .last .0) (c .before .before .before .before .shift .ensures)
 
 same-length : tie.Need-same-length
@@ -135,7 +135,7 @@ returns : tie.Need-returns
 returns c =
     let start = c .before .before .before .before .before .before .before .before .before .before .before .before .before .before .before in
     let a = start .args in
-    let told = c .before .before .before .before .before .before .before .before .before .before .before .before .text-start in
+    let told = c .before .before .before .before .before .before .before .before .before .before .before .before .piece-start in
     (room (a .limits) (a .counts) (a .words .now) (a .slot) (told .result) (start .pre .0) (start .pre .1) (told .ensures), done (a .limits) (a .counts) (a .words .now) (a .slot) (told .result) (start .pre .0) (start .pre .1) (told .ensures) (a .len) (c .before .before .before .before .before .before .before .shift .last .0) _ (c .before .before .before .before .before .before .before .shift .ensures) (c .before .before .move-ends .ensures))
 
 same-length-2 : tie.Need-same-length-2
@@ -145,14 +145,14 @@ returns-2 : tie.Need-returns-2
 returns-2 c =
     let start = c .before .before .before .before .before .before in
     let a = start .args in
-    let told = c .before .before .before .text-start in
+    let told = c .before .before .before .piece-start in
     (room (a .limits) (a .counts) (a .words .now) (a .slot) (told .result) (start .pre .0) (start .pre .1) (told .ensures), none-moved (a .limits) (a .counts) (a .words .now) (a .slot) (told .result) (start .pre .0) (start .pre .1) (told .ensures) (a .len) (c .if1 .left))
 
 pub make-room-spec : {M : Type 1} → statement M
 make-room-spec =
     tie.close
     (tie.spec
-    text-start-requires
+    piece-start-requires
     mul-old
     slice-read-old
     sub-old

@@ -9,7 +9,7 @@ use lib.ListN.{length, getD, set, length-map, length-set}
 use Rattle.words.specs.Parts.{part, put}
 use Rattle.words.proofs.Parts.{part-none, part-snoc, length-part, put-nil, getD-put-after, set-put-after}
 use Rattle.words.proofs.Lists.{map-append}
-use Rattle.texts.specs.Ends.{movedEnd}
+use Rattle.words.specs.Ends.{movedEnd}
 use Rattle.texts.specs.Words.{Movable, endsMoved}
 use Rattle.texts.proofs.edits.move_ends.Statement.{statement}
 use Rattle.texts.proofs.edits.move_ends.Tie as tie

@@ -6,8 +6,8 @@ use Prim.Native.Nat.{ℕ}
 use native.Mathlib.Omega.{arith}
 use lib.ListN.{length}
 use Rattle.words.specs.Parts.{put}
-use Rattle.words.specs.declared.pieces.Place.{Place}
-use Rattle.texts.specs.Ends.{lengthOf}
+use Rattle.words.specs.declared.ends.Place.{Place}
+use Rattle.words.specs.Ends.{lengthOf}
 use Rattle.texts.specs.Words.{startAt, roomed, rewritten}
 use Rattle.texts.specs.declared.TextLimits.{TextLimits}
 use Rattle.texts.specs.declared.TextCounts.{TextCounts}
