@@ -2,145 +2,175 @@
 -- Assumes nothing.
 use mathlib.Core.Path.{_≡_, sym, ap, _∙_}
 use mathlib.Core.Bool.{Bool, true, false, _&&_}
-use mathlib.Core.List.{List, [], _∷_, _++_, append-assoc}
+use mathlib.Core.Option.{some}
+use mathlib.Core.List.{List, [], _∷_, _++_, append-assoc, map, map-append}
 use Prim.Native.Nat.{ℕ, suc, _+_, _-_, _≤_, _<_}
 use native.Mathlib.Omega.{arith}
 use lib.ListN.{length, set, take, length-append, length-set}
-use lib.Seq.{take-suc-set, drop-set-lt, length-take-le}
+use lib.Seq.{take-suc-set, drop-set-lt}
 use lib.Dec.{ltb, leb}
 use borrow.Author.Tests.{le-ltb, lt-ltb, ltb-true, leb-true}
 use Rattle.words.specs.Parts.{part, put}
 use Rattle.words.specs.Lists.{sum, joined}
 use Rattle.words.specs.Pieces.{pieces}
+use Rattle.words.specs.Ends.{lengthsOf, endsReach}
 use Rattle.words.proofs.Tests.{and-left, and-right, leb-same}
 use Rattle.words.proofs.Parts.{length-put, take-put-before, part-put-before, part-put-same}
-use Rattle.words.proofs.Lengths.{sum-append, length-pieces, pieces-same, pieces-append}
-use Rattle.names.specs.Table.{Name, name, nameBytes, numberOf, nameFits}
+use Rattle.words.proofs.Lengths.{pieces-same, pieces-append}
+use Rattle.words.proofs.Reach.{lengths-add, count-taken, lengths-snoc, reach-snoc}
+use Rattle.names.specs.Table.{Name, name, nameBytes, entryBytes, numberOf, nameFits}
 use Rattle.names.specs.Words.{pairs, bytesAt, tableOf, TableHeld, oneMore, appended, InternedTo}
 use Rattle.names.specs.declared.NameLimits.{NameLimits}
 use Rattle.names.specs.declared.NameCounts.{NameCounts}
 use Rattle.names.proofs.Table.{interned-found, interned-new}
 use Rattle.names.proofs.Words.{pairs-append, table-names, table-bytes}
 
--- ---- the words
+-- ---- the words: two ends from word k on, the parts behind the bytes used
 
 module _ (l ns lo : List ℕ) (k base used : ℕ) (before : k + 2 ≤ base) (room : base + used + length ns + length lo ≤ length l) where
-  abbrev lengths-set : List ℕ
-  lengths-set = set (set l k (length ns)) (k + 1) (length lo)
+  abbrev ends-set : List ℕ
+  ends-set = set (set l k (used + length ns)) (k + 1) (used + length ns + length lo)
 
-  size-set : length lengths-set ≡ length l
-  size-set = length-set (set l k (length ns)) (k + 1) (length lo) ∙ length-set l k (length ns)
+  size-set : length ends-set ≡ length l
+  size-set = length-set (set l k (used + length ns)) (k + 1) (used + length ns + length lo) ∙ length-set l k (used + length ns)
 
   abbrev written : List ℕ
-  written = put (base + used + length ns) lo (put (base + used) ns lengths-set)
+  written = put (base + used + length ns) lo (put (base + used) ns ends-set)
 
-  size-put : length (put (base + used) ns lengths-set) ≡ length l
-  size-put = length-put lengths-set (base + used) ns (omega (arith, size-set)) ∙ size-set
+  size-put : length (put (base + used) ns ends-set) ≡ length l
+  size-put = length-put ends-set (base + used) ns (omega (arith, size-set)) ∙ size-set
 
   size-written : length written ≡ length l
-  size-written = length-put (put (base + used) ns lengths-set) (base + used + length ns) lo (omega (arith, size-put)) ∙ size-put
+  size-written = length-put (put (base + used) ns ends-set) (base + used + length ns) lo (omega (arith, size-put)) ∙ size-put
 
-  taken : take (k + 2) written ≡ take k l ++ (length ns ∷ length lo ∷ [])
+  taken : take (k + 2) written ≡ (take k l ++ ((used + length ns) ∷ [])) ++ ((used + length ns + length lo) ∷ [])
   taken =
       let e : k + 2 ≡ suc (k + 1) = omega arith in
       let f : k + 1 ≡ suc k = omega arith in
-      take-put-before (put (base + used) ns lengths-set) (base + used + length ns) lo (k + 2) (omega arith) (omega (arith, size-put))
-      ∙ take-put-before lengths-set (base + used) ns (k + 2) (omega arith) (omega (arith, size-set))
-      ∙ ap (λ (i : ℕ). take i lengths-set) e
-      ∙ take-suc-set (set l k (length ns)) (k + 1) (length lo) (simp length-set (omega arith))
-      ∙ ap (λ (i : ℕ). take i (set l k (length ns)) ++ (length lo ∷ [])) f
-      ∙ ap (λ (r : List ℕ). r ++ (length lo ∷ [])) (take-suc-set l k (length ns) (omega arith))
-      ∙ append-assoc (take k l) (length ns ∷ []) (length lo ∷ [])
+      take-put-before (put (base + used) ns ends-set) (base + used + length ns) lo (k + 2) (omega arith) (omega (arith, size-put))
+      ∙ take-put-before ends-set (base + used) ns (k + 2) (omega arith) (omega (arith, size-set))
+      ∙ ap (λ (i : ℕ). take i ends-set) e
+      ∙ take-suc-set (set l k (used + length ns)) (k + 1) (used + length ns + length lo) (simp length-set (omega arith))
+      ∙ ap (λ (i : ℕ). take i (set l k (used + length ns)) ++ ((used + length ns + length lo) ∷ [])) f
+      ∙ ap (λ (r : List ℕ). r ++ ((used + length ns + length lo) ∷ [])) (take-suc-set l k (used + length ns) (omega arith))
 
   old-bytes : part base used written ≡ part base used l
   unfolding part
   old-bytes =
-      part-put-before (put (base + used) ns lengths-set) (base + used + length ns) lo base used (omega arith) (omega (arith, size-put))
-      ∙ part-put-before lengths-set (base + used) ns base used (omega arith) (omega (arith, size-set))
-      ∙ ap (take used) (drop-set-lt base (set l k (length ns)) (k + 1) (length lo) (omega arith) ∙ drop-set-lt base l k (length ns) (omega arith))
+      part-put-before (put (base + used) ns ends-set) (base + used + length ns) lo base used (omega arith) (omega (arith, size-put))
+      ∙ part-put-before ends-set (base + used) ns base used (omega arith) (omega (arith, size-set))
+      ∙ ap (take used) (drop-set-lt base (set l k (used + length ns)) (k + 1) (used + length ns + length lo) (omega arith) ∙ drop-set-lt base l k (used + length ns) (omega arith))
 
   new-namespace : part (base + used) (length ns) written ≡ ns
   new-namespace =
-      part-put-before (put (base + used) ns lengths-set) (base + used + length ns) lo (base + used) (length ns) (omega arith) (omega (arith, size-put))
-      ∙ part-put-same lengths-set (base + used) ns (omega (arith, size-set))
+      part-put-before (put (base + used) ns ends-set) (base + used + length ns) lo (base + used) (length ns) (omega arith) (omega (arith, size-put))
+      ∙ part-put-same ends-set (base + used) ns (omega (arith, size-set))
 
   new-local : part (base + used + length ns) (length lo) written ≡ lo
-  new-local = part-put-same (put (base + used) ns lengths-set) (base + used + length ns) lo (omega (arith, size-put))
+  new-local = part-put-same (put (base + used) ns ends-set) (base + used + length ns) lo (omega (arith, size-put))
+
+-- two ends more say two lengths more, and reach as far
+module _ (used n m : ℕ) (ends : List ℕ) (h : endsReach 0 ends used ≡ true) where
+  first-reach : endsReach 0 (ends ++ ((used + n) ∷ [])) (used + n) ≡ true
+  first-reach = reach-snoc 0 used ends h (used + n) (omega arith)
+
+  both-reach : endsReach 0 ((ends ++ ((used + n) ∷ [])) ++ ((used + n + m) ∷ [])) (used + n + m) ≡ true
+  both-reach = reach-snoc 0 (used + n) (ends ++ ((used + n) ∷ [])) first-reach (used + n + m) (omega arith)
+
+  both-lengths : lengthsOf ((ends ++ ((used + n) ∷ [])) ++ ((used + n + m) ∷ [])) ≡ lengthsOf ends ++ (n ∷ m ∷ [])
+  both-lengths =
+      let a : used + n - used ≡ n = omega arith in
+      let b : used + n + m - (used + n) ≡ m = omega arith in
+      lengths-snoc 0 (used + n) (ends ++ ((used + n) ∷ [])) first-reach (used + n + m)
+      ∙ rw (lengths-snoc 0 used ends h (used + n), a, b) (append-assoc (lengthsOf ends) (n ∷ []) (m ∷ []))
 
 -- ---- the table
 
 module _ (limits : NameLimits) (counts : NameCounts) (words : List ℕ) (n : Name) (h : TableHeld limits counts words)
     (f : counts .names < limits .names) (g : counts .bytes + (length (n .namespace) + length (n .local)) ≤ limits .bytes) where
+  abbrev lengths : List ℕ
+  lengths = lengthsOf (take (counts .names + counts .names) words)
+
   more : counts .names + 1 + (counts .names + 1) ≡ counts .names + counts .names + 2
   more = omega arith
 
-  bytes-more : length (nameBytes n) ≡ length (n .namespace) + length (n .local)
-  bytes-more = length-append (n .namespace) (n .local)
-
-  lengths-after : take (counts .names + 1 + (counts .names + 1)) (appended limits counts words n)
-      ≡ take (counts .names + counts .names) words ++ (length (n .namespace) ∷ length (n .local) ∷ [])
-  unfolding appended
-  lengths-after =
-      rw more (taken words (n .namespace) (n .local) (counts .names + counts .names) (bytesAt limits) (counts .bytes) (omega arith) (omega (arith, h .size)))
+  bytes-more : counts .bytes + length (n .namespace) + length (n .local) ≡ counts .bytes + length (nameBytes n)
+  bytes-more = omega (arith, length-append (n .namespace) (n .local))
 
   fits : bytesAt limits + counts .bytes + length (n .namespace) + length (n .local) ≤ length words
   fits = omega (arith, h .size)
 
-  old : pieces (bytesAt limits) (take (counts .names + counts .names) words) (appended limits counts words n)
-      ≡ pieces (bytesAt limits) (take (counts .names + counts .names) words) words
+  ends-after : take (counts .names + 1 + (counts .names + 1)) (appended limits counts words n)
+      ≡ (take (counts .names + counts .names) words ++ ((counts .bytes + length (n .namespace)) ∷ [])) ++ ((counts .bytes + length (n .namespace) + length (n .local)) ∷ [])
+  unfolding appended
+  ends-after = rw more (taken words (n .namespace) (n .local) (counts .names + counts .names) (bytesAt limits) (counts .bytes) (omega arith) fits)
+
+  lengths-after : lengthsOf (take (counts .names + 1 + (counts .names + 1)) (appended limits counts words n)) ≡ lengths ++ (length (n .namespace) ∷ length (n .local) ∷ [])
+  lengths-after =
+      ap lengthsOf ends-after
+      ∙ both-lengths (counts .bytes) (length (n .namespace)) (length (n .local)) (take (counts .names + counts .names) words) (h .ends)
+
+  lengths-used : sum lengths ≡ counts .bytes
+  lengths-used = lengths-add (bytesAt limits) (counts .names + counts .names) (counts .bytes) words (omega (arith, h .size)) (h .ends)
+
+  old : pieces (bytesAt limits) lengths (appended limits counts words n) ≡ pieces (bytesAt limits) lengths words
   unfolding appended
   old =
-      pieces-same (bytesAt limits) (bytesAt limits) (take (counts .names + counts .names) words)
-      (put (bytesAt limits + counts .bytes + length (n .namespace)) (n .local)
-      (put (bytesAt limits + counts .bytes) (n .namespace)
-      (set (set words (counts .names + counts .names) (length (n .namespace))) (counts .names + counts .names + 1) (length (n .local)))))
+      pieces-same (bytesAt limits) (bytesAt limits) lengths
+      (written words (n .namespace) (n .local) (counts .names + counts .names) (bytesAt limits) (counts .bytes) (omega arith) fits)
       words
-      (rw (h .sums) (old-bytes words (n .namespace) (n .local) (counts .names + counts .names) (bytesAt limits) (counts .bytes) (omega arith) fits))
+      (rw lengths-used (old-bytes words (n .namespace) (n .local) (counts .names + counts .names) (bytesAt limits) (counts .bytes) (omega arith) fits))
 
-  new : pairs (pieces (bytesAt limits + sum (take (counts .names + counts .names) words)) (length (n .namespace) ∷ length (n .local) ∷ []) (appended limits counts words n)) ≡ n ∷ []
+  new : pieces (bytesAt limits + sum lengths) (length (n .namespace) ∷ length (n .local) ∷ []) (appended limits counts words n) ≡ n .namespace ∷ n .local ∷ []
   unfolding appended
   new =
       rw (
-        h .sums,
+        lengths-used,
         new-namespace words (n .namespace) (n .local) (counts .names + counts .names) (bytesAt limits) (counts .bytes) (omega arith) fits,
         new-local words (n .namespace) (n .local) (counts .names + counts .names) (bytesAt limits) (counts .bytes) (omega arith) fits,
       )
 
-  pub appended-table : tableOf limits (oneMore counts n) (appended limits counts words n) ≡ tableOf limits counts words ++ (n ∷ [])
-  unfolding tableOf
-  appended-table =
-      let ls : List ℕ = take (counts .names + counts .names) words in
+  pairs-after : pairs (pieces (bytesAt limits) (lengthsOf (take (counts .names + 1 + (counts .names + 1)) (appended limits counts words n))) (appended limits counts words n))
+      ≡ pairs (pieces (bytesAt limits) lengths words) ++ (n ∷ [])
+  pairs-after =
       let w : List ℕ = appended limits counts words n in
-      let e : length (pieces (bytesAt limits) ls w) ≡ counts .names + counts .names = length-pieces (bytesAt limits) ls w ∙ length-take-le (counts .names + counts .names) words (omega arith) in
+      let e : length (pieces (bytesAt limits) lengths words) ≡ counts .names + counts .names = count-taken (bytesAt limits) (counts .names + counts .names) (counts .bytes) words (omega (arith, h .size)) (h .ends) in
       ap (λ (l : List ℕ). pairs (pieces (bytesAt limits) l w)) lengths-after
-      ∙ ap pairs (pieces-append (bytesAt limits) ls (length (n .namespace) ∷ length (n .local) ∷ []) w)
-      ∙ pairs-append (counts .names) (pieces (bytesAt limits) ls w) (pieces (bytesAt limits + sum ls) (length (n .namespace) ∷ length (n .local) ∷ []) w) e
-      ∙ ap (λ (r : List Name). pairs (pieces (bytesAt limits) ls w) ++ r) new
-      ∙ ap (λ (r : List (List ℕ)). pairs r ++ (n ∷ [])) old
+      ∙ ap pairs
+      (pieces-append (bytesAt limits) lengths (length (n .namespace) ∷ length (n .local) ∷ []) w
+      ∙ ap (λ (r : List (List ℕ)). pieces (bytesAt limits) lengths w ++ r) new
+      ∙ ap (λ (r : List (List ℕ)). r ++ (n .namespace ∷ n .local ∷ [])) old)
+      ∙ pairs-append (counts .names) (pieces (bytesAt limits) lengths words) (n .namespace ∷ n .local ∷ []) e
 
-  sums-after : sum (take (counts .names + 1 + (counts .names + 1)) (appended limits counts words n)) ≡ counts .bytes + length (nameBytes n)
-  sums-after =
-      ap sum lengths-after
-      ∙ omega (arith, sum-append (take (counts .names + counts .names) words) (length (n .namespace) ∷ length (n .local) ∷ []), h .sums, bytes-more)
+  pub appended-table : tableOf limits (oneMore counts n) (appended limits counts words n) ≡ tableOf limits counts words ++ (some n ∷ [])
+  unfolding tableOf
+  appended-table = ap (map some) pairs-after ∙ map-append some (pairs (pieces (bytesAt limits) lengths words)) (n ∷ [])
+
+  reach-after : endsReach 0 (take (counts .names + 1 + (counts .names + 1)) (appended limits counts words n)) (counts .bytes + length (nameBytes n)) ≡ true
+  reach-after =
+      rw (ends-after, ← bytes-more)
+      (both-reach (counts .bytes) (length (n .namespace)) (length (n .local)) (take (counts .names + counts .names) words) (h .ends))
 
   size-after : length (appended limits counts words n) ≡ length words
   unfolding appended
   size-after = size-written words (n .namespace) (n .local) (counts .names + counts .names) (bytesAt limits) (counts .bytes) (omega arith) fits
 
   pub appended-held : TableHeld limits (oneMore counts n) (appended limits counts words n)
-  appended-held = record { size = size-after ∙ h .size; names = omega arith; bytes = omega (arith, bytes-more); sums = sums-after }
+  appended-held = record { size = size-after ∙ h .size; names = omega arith; bytes = omega (arith, bytes-more); ends = reach-after }
 
 -- ---- interning
 
 -- the code's writes, one after the other
 pub written-name : (limits : NameLimits) (counts : NameCounts) (words first second ns lo : List ℕ)
-    → first ≡ put (bytesAt limits + counts .bytes) ns (set (set words (counts .names + counts .names) (length ns)) (counts .names + counts .names + 1) (length lo))
+    → first ≡ put (bytesAt limits + counts .bytes) ns (set (set words (counts .names + counts .names) (counts .bytes + length ns)) (counts .names + counts .names + 1) (counts .bytes + length ns + length lo))
     → second ≡ put (bytesAt limits + counts .bytes + length ns) lo first → second ≡ appended limits counts words (name ns lo)
 unfolding appended
 written-name limits counts words first second ns lo e f = rw e at f
 
-pub counted-name : (counts : NameCounts) (ns lo : List ℕ) → record { names = counts .names + 1; bytes = counts .bytes + (length ns + length lo) } ≡ oneMore counts (name ns lo)
-counted-name counts ns lo = rw (length-append ns lo)
+pub counted-name : (counts : NameCounts) (ns lo : List ℕ) → record { names = counts .names + 1; bytes = counts .bytes + length ns + length lo } ≡ oneMore counts (name ns lo)
+counted-name counts ns lo =
+    let e : counts .bytes + length ns + length lo ≡ counts .bytes + length (ns ++ lo) = omega (arith, length-append ns lo) in
+    rw e
 
 module _ (limits : NameLimits) (counts : NameCounts) (words : List ℕ) (n : Name) (h : TableHeld limits counts words) (k : ℕ) (e : k ≡ numberOf (tableOf limits counts words) n) where
   -- the pair is there: nothing is written
@@ -179,12 +209,12 @@ module _ (limits : NameLimits) (counts : NameCounts) (words : List ℕ) (n : Nam
         → (counts .names < limits .names) × (counts .bytes + (length (n .namespace) + length (n .local)) ≤ limits .bytes)
     unfolding nameFits
     room t =
-        let t′ : (ltb (length (tableOf limits counts words)) (limits .names) && leb (length (joined nameBytes (tableOf limits counts words)) + length (nameBytes n)) (limits .bytes)) ≡ true =
+        let t′ : (ltb (length (tableOf limits counts words)) (limits .names) && leb (length (joined entryBytes (tableOf limits counts words)) + length (nameBytes n)) (limits .bytes)) ≡ true =
         rw (le-ltb (numberOf (tableOf limits counts words) n) (length (tableOf limits counts words)) (omega (arith, table-names limits counts words h))) at t in
         let a : Bool = ltb (length (tableOf limits counts words)) (limits .names) in
-        let b : Bool = leb (length (joined nameBytes (tableOf limits counts words)) + length (nameBytes n)) (limits .bytes) in
+        let b : Bool = leb (length (joined entryBytes (tableOf limits counts words)) + length (nameBytes n)) (limits .bytes) in
         let p : length (tableOf limits counts words) < limits .names = ltb-true (length (tableOf limits counts words)) (limits .names) (and-left a b t′) in
-        let q : length (joined nameBytes (tableOf limits counts words)) + length (nameBytes n) ≤ limits .bytes = leb-true (length (joined nameBytes (tableOf limits counts words)) + length (nameBytes n)) (limits .bytes) (and-right a b t′) in (
+        let q : length (joined entryBytes (tableOf limits counts words)) + length (nameBytes n) ≤ limits .bytes = leb-true (length (joined entryBytes (tableOf limits counts words)) + length (nameBytes n)) (limits .bytes) (and-right a b t′) in (
           omega (arith, table-names limits counts words h),
           omega (arith, table-bytes limits counts words h, length-append (n .namespace) (n .local)),
         )

@@ -2,22 +2,22 @@
 -- Assumes nothing.
 use mathlib.Core.Path.{_≡_, refl, sym, ap, _∙_}
 use mathlib.Core.Bool.{Bool, true, false, _&&_, and-false}
-use mathlib.Core.Option.{none, some}
-use mathlib.Core.List.{List, [], _∷_, _++_, append-assoc}
+use mathlib.Core.Option.{Option, none, some}
+use mathlib.Core.List.{List, [], _∷_, _++_, append-assoc, map}
 use Prim.Native.Nat.{ℕ, zero, suc, _+_, _≤_, _<_, min}
 use native.Mathlib.Decide.{decLt}
 use native.Mathlib.Omega.{arith}
-use lib.ListN.{length, getD, take}
-use lib.Seq.{length-take-le, take-take, getD-take}
-use lib.Dec.{eqb, leb}
-use borrow.Author.Tests.{lt-ltb, le-ltb, le-leb, lt-leb, leb-true, eqb-true, eq-eqb}
-use Rattle.words.specs.Lists.{sum, joined}
-use Rattle.words.specs.Pieces.{pieces, inside}
-use Rattle.words.proofs.Tests.{and-left, and-right}
-use Rattle.words.proofs.Lengths.{sum-take-le, length-pieces, joined-pieces, getD-pieces, piece-there, piece-number}
-use Rattle.words.proofs.Parts.{length-part}
-use Rattle.names.proofs.Table.{nameAt-none}
-use Rattle.names.specs.Table.{Name, name, nameBytes, nameAt}
+use lib.ListN.{length, getD, take, length-map, List·getD-eq-default}
+use lib.Dec.{leb}
+use borrow.Author.Tests.{le-leb, lt-leb, leb-true}
+use Rattle.words.specs.Parts.{part}
+use Rattle.words.specs.Lists.{joined}
+use Rattle.words.specs.Pieces.{pieces}
+use Rattle.words.specs.Ends.{startOf, lengthOf, lengthsOf, endsReach, pieceThere}
+use Rattle.words.proofs.Tests.{and-left, and-right, and-both}
+use Rattle.words.proofs.Reach.{count-taken, bytes-taken, piece-taken}
+use Rattle.words.proofs.Places as place
+use Rattle.names.specs.Table.{Name, name, nameBytes, entryBytes, nameAt}
 use Rattle.names.specs.Words.{pairs, bytesAt, tableOf, TableHeld, tableOk, nameThere, partShown, nameShown}
 use Rattle.names.specs.declared.NameLimits.{NameLimits}
 use Rattle.names.specs.declared.NameCounts.{NameCounts}
@@ -33,54 +33,53 @@ module _ (limits : NameLimits) (counts : NameCounts) (words : List ℕ) where
   unfolding tableOk
   bytes-over h = rw (lt-leb (counts .bytes) (limits .bytes) h, and-false (leb (counts .names) (limits .names)))
 
-  pub within-sums : counts .names ≤ limits .names → counts .bytes ≤ limits .bytes → tableOk limits counts words ≡ eqb (sum (take (counts .names + counts .names) words)) (counts .bytes)
+  pub within-ends : counts .names ≤ limits .names → counts .bytes ≤ limits .bytes → tableOk limits counts words ≡ endsReach 0 (take (counts .names + counts .names) words) (counts .bytes)
   unfolding tableOk
-  within-sums h k = rw (le-leb (counts .names) (limits .names) h, le-leb (counts .bytes) (limits .bytes) k)
+  within-ends h k = rw (le-leb (counts .names) (limits .names) h, le-leb (counts .bytes) (limits .bytes) k)
 
   pub ok-held : length words ≡ bytesAt limits + limits .bytes → tableOk limits counts words ≡ true → TableHeld limits counts words
   unfolding tableOk
   ok-held s h =
       let a : Bool = leb (counts .names) (limits .names) in
       let b : Bool = leb (counts .bytes) (limits .bytes) in
-      let e : Bool = eqb (sum (take (counts .names + counts .names) words)) (counts .bytes) in
+      let e : Bool = endsReach 0 (take (counts .names + counts .names) words) (counts .bytes) in
       let r : (b && e) ≡ true = and-right a (b && e) h in
       record {
         size = s;
         names = leb-true (counts .names) (limits .names) (and-left a (b && e) h);
         bytes = leb-true (counts .bytes) (limits .bytes) (and-left b e r);
-        sums = eqb-true (sum (take (counts .names + counts .names) words)) (counts .bytes) (and-right b e r);
+        ends = and-right b e r;
       }
 
   pub held-ok : TableHeld limits counts words → tableOk limits counts words ≡ true
-  held-ok h = within-sums (h .names) (h .bytes) ∙ eq-eqb _ _ (h .sums)
+  held-ok h = within-ends (h .names) (h .bytes) ∙ h .ends
 
 -- ---- what is shown
 
 module _ (limits : NameLimits) (counts : NameCounts) (words : List ℕ) (i : ℕ) where
+  abbrev count : ℕ
+  count = min (counts .names) (limits .names) + min (counts .names) (limits .names)
+
+  abbrev used : ℕ
+  used = min (counts .bytes) (limits .bytes)
+
   pub there-number : min (counts .names) (limits .names) ≤ i → nameThere limits counts i words ≡ false
-  unfolding nameThere inside
-  there-number h = rw (le-ltb (i + i + 1) (min (counts .names) (limits .names) + min (counts .names) (limits .names)) (omega arith))
+  unfolding nameThere
+  there-number h = rw (place.there-number count used (i + i) words (omega arith))
 
-  pub there-leb : i < min (counts .names) (limits .names) → nameThere limits counts i words ≡ leb (sum (take (i + i + 2) words)) (min (counts .bytes) (limits .bytes))
-  unfolding nameThere inside
-  there-leb h =
-      let e : suc (i + i + 1) ≡ i + i + 2 = omega arith in
-      rw (lt-ltb (i + i + 1) (min (counts .names) (limits .names) + min (counts .names) (limits .names)) (omega arith), e)
-
-  shown-there : nameThere limits counts i words ≡ true → nameShown limits counts i words ≡ some (name (partShown limits counts i 0 words) (partShown limits counts i 1 words))
+  pub shown-there : nameThere limits counts i words ≡ true → nameShown limits counts i words ≡ some (name (partShown limits counts i 0 words) (partShown limits counts i 1 words))
   unfolding nameShown
   shown-there t = rw t
 
-  shown-none : nameThere limits counts i words ≡ false → nameShown limits counts i words ≡ none
+  pub shown-none : nameThere limits counts i words ≡ false → nameShown limits counts i words ≡ none
   unfolding nameShown
   shown-none t = rw t
 
   pub part-number : (k : ℕ) → min (counts .names) (limits .names) ≤ i → partShown limits counts i k words ≡ []
   unfolding partShown
-  part-number k h =
-      piece-number (min (counts .names) (limits .names) + min (counts .names) (limits .names)) (min (counts .bytes) (limits .bytes)) (i + i + k) words (bytesAt limits) (omega arith)
+  part-number k h = place.shown-nothing count used (i + i + k) words (bytesAt limits) (place.there-number count used (i + i + k) words (omega arith))
 
--- ---- the counts are those of the table
+-- ---- two pieces after one another are a name
 
 pub length-pairs : (n : ℕ) (l : List (List ℕ)) → length l ≡ n + n → length (pairs l) ≡ n
 length-pairs zero [] h = refl
@@ -89,7 +88,7 @@ length-pairs (suc n) [] h = absurd (omega arith)
 length-pairs (suc n) (x ∷ []) h = absurd (omega arith)
 length-pairs (suc n) (x ∷ y ∷ l) h = ap suc (length-pairs n l (omega arith))
 
-pub joined-pairs : (n : ℕ) (l : List (List ℕ)) → length l ≡ n + n → joined nameBytes (pairs l) ≡ joined (λ t. t) l
+pub joined-pairs : (n : ℕ) (l : List (List ℕ)) → length l ≡ n + n → joined entryBytes (map some (pairs l)) ≡ joined (λ t. t) l
 joined-pairs zero [] h = refl
 joined-pairs zero (x ∷ l) h = absurd (omega arith)
 joined-pairs (suc n) [] h = absurd (omega arith)
@@ -103,66 +102,96 @@ pairs-append (suc n) [] m h = absurd (omega arith)
 pairs-append (suc n) (x ∷ []) m h = absurd (omega arith)
 pairs-append (suc n) (x ∷ y ∷ l) m h = ap (λ (r : List Name). name x y ∷ r) (pairs-append n l m (omega arith))
 
-pub getD-pairs : (i : ℕ) (l : List (List ℕ)) → i + i + 1 < length l → nameAt (pairs l) i ≡ some (name (getD l (i + i) []) (getD l (i + i + 1) []))
-getD-pairs i [] h = absurd (omega arith)
-getD-pairs i (x ∷ []) h = absurd (omega arith)
-getD-pairs zero (x ∷ y ∷ l) h = refl
-getD-pairs (suc i) (x ∷ y ∷ l) h =
+pub nameAt-pairs : (i : ℕ) (l : List (List ℕ)) → i + i + 1 < length l → nameAt (map some (pairs l)) i ≡ some (name (getD l (i + i) []) (getD l (i + i + 1) []))
+nameAt-pairs i [] h = absurd (omega arith)
+nameAt-pairs i (x ∷ []) h = absurd (omega arith)
+nameAt-pairs zero (x ∷ y ∷ l) h = refl
+nameAt-pairs (suc i) (x ∷ y ∷ l) h =
     let e : suc i + suc i ≡ suc (suc (i + i)) = omega arith in
     let f : suc (suc (i + i)) + 1 ≡ suc (suc (i + i + 1)) = omega arith in
-    rw (e, f) (getD-pairs i l (omega arith))
+    rw (e, f) (nameAt-pairs i l (omega arith))
+
+-- ---- n names by ends that reach the bytes used, the first byte at index base
+
+abbrev pub namesBy : ℕ → ℕ → List ℕ → List (Option Name)
+namesBy base n words = map some (pairs (pieces base (lengthsOf (take (n + n) words)) words))
+
+module _ (base n used : ℕ) (words : List ℕ) (fits : n + n ≤ length words) (h : endsReach 0 (take (n + n) words) used ≡ true) where
+  pub by-names : length (namesBy base n words) ≡ n
+  by-names =
+      length-map (pairs (pieces base (lengthsOf (take (n + n) words)) words)) some
+      ∙ length-pairs n (pieces base (lengthsOf (take (n + n) words)) words) (count-taken base (n + n) used words fits h)
+
+  pub by-bytes : base + used ≤ length words → length (joined entryBytes (namesBy base n words)) ≡ used
+  by-bytes g =
+      ap length (joined-pairs n (pieces base (lengthsOf (take (n + n) words)) words) (count-taken base (n + n) used words fits h))
+      ∙ bytes-taken base (n + n) used words fits h g
+
+  module _ (i : ℕ) (m : i < n) where
+    pub by-pieces : nameAt (namesBy base n words) i
+        ≡ some (name (getD (pieces base (lengthsOf (take (n + n) words)) words) (i + i) []) (getD (pieces base (lengthsOf (take (n + n) words)) words) (i + i + 1) []))
+    by-pieces = nameAt-pairs i (pieces base (lengthsOf (take (n + n) words)) words) (omega (arith, count-taken base (n + n) used words fits h))
+
+    -- the name of a number is where the ends say
+    pub by-ends : nameAt (namesBy base n words) i
+        ≡ some (name (part (base + startOf words (i + i)) (lengthOf words (i + i)) words) (part (base + startOf words (i + i + 1)) (lengthOf words (i + i + 1)) words))
+    by-ends =
+        by-pieces
+        ∙ rw (piece-taken base (n + n) used words fits h (i + i) (omega arith), piece-taken base (n + n) used words fits h (i + i + 1) (omega arith))
+
+-- ---- the counts are those of the table
 
 module _ (limits : NameLimits) (counts : NameCounts) (words : List ℕ) (h : TableHeld limits counts words) where
-  lengths-taken : length (take (counts .names + counts .names) words) ≡ counts .names + counts .names
-  lengths-taken = length-take-le (counts .names + counts .names) words (omega arith)
-
-  taken : length (pieces (bytesAt limits) (take (counts .names + counts .names) words) words) ≡ counts .names + counts .names
-  taken = length-pieces (bytesAt limits) (take (counts .names + counts .names) words) words ∙ lengths-taken
+  fits : counts .names + counts .names ≤ length words
+  fits = omega (arith, h .size)
 
   pub table-names : length (tableOf limits counts words) ≡ counts .names
   unfolding tableOf
-  table-names = length-pairs (counts .names) (pieces (bytesAt limits) (take (counts .names + counts .names) words) words) taken
+  table-names = by-names (bytesAt limits) (counts .names) (counts .bytes) words fits (h .ends)
 
-  pub table-bytes : length (joined nameBytes (tableOf limits counts words)) ≡ counts .bytes
+  pub table-bytes : length (joined entryBytes (tableOf limits counts words)) ≡ counts .bytes
   unfolding tableOf
-  table-bytes =
-      ap length
-      (joined-pairs (counts .names) (pieces (bytesAt limits) (take (counts .names + counts .names) words) words) taken
-      ∙ joined-pieces (bytesAt limits) (take (counts .names + counts .names) words) words)
-      ∙ length-part words (bytesAt limits) (sum (take (counts .names + counts .names) words)) (omega arith)
-      ∙ h .sums
+  table-bytes = by-bytes (bytesAt limits) (counts .names) (counts .bytes) words fits (h .ends) (omega (arith, h .size))
 
   -- ---- what is read is the name
 
   module _ (i : ℕ) where
-    shown : (k : ℕ) → k ≤ 1 → i < counts .names
-        → partShown limits counts i k words ≡ getD (pieces (bytesAt limits) (take (counts .names + counts .names) words) words) (i + i + k) []
-    unfolding partShown
-    shown k f g =
-        let n : ℕ = counts .names + counts .names in
-        let a : min (counts .names) (limits .names) ≡ counts .names = omega arith in
-        let b : min (counts .bytes) (limits .bytes) ≡ counts .bytes = omega arith in
-        let j : ℕ = i + i + k in
-        let l : j < n = omega arith in
-        let s : sum (take (suc j) words) ≤ counts .bytes = omega (arith, sum-take-le words (suc j) n l) in
-        rw (a, b)
-        (piece-there n (counts .bytes) j words (bytesAt limits) l s
-        ∙ sym (getD-pieces (bytesAt limits) (take n words) words j (rw lengths-taken l)
-        ∙ rw (take-take j n words (omega arith), getD-take n words j 0 l)))
+    module _ (g : i < counts .names) where
+      names-all : min (counts .names) (limits .names) ≡ counts .names
+      names-all = omega (arith, h .names)
+
+      bytes-all : min (counts .bytes) (limits .bytes) ≡ counts .bytes
+      bytes-all = omega (arith, h .bytes)
+
+      pub held-there : nameThere limits counts i words ≡ true
+      unfolding nameThere
+      held-there =
+          let n : ℕ = counts .names + counts .names in
+          rw (names-all, bytes-all)
+          (and-both (pieceThere n (counts .bytes) (i + i) words) (pieceThere n (counts .bytes) (i + i + 1) words)
+          (place.reach-there (bytesAt limits) n (counts .bytes) words fits (h .ends) (i + i) (omega arith))
+          (place.reach-there (bytesAt limits) n (counts .bytes) words fits (h .ends) (i + i + 1) (omega arith)))
+
+      shown : (k : ℕ) → k ≤ 1 → partShown limits counts i k words ≡ getD (pieces (bytesAt limits) (lengthsOf (take (counts .names + counts .names) words)) words) (i + i + k) []
+      unfolding partShown
+      shown k f =
+          rw (names-all, bytes-all)
+          (place.reach-shown (bytesAt limits) (counts .names + counts .names) (counts .bytes) words fits (h .ends) (i + i + k) (omega arith))
+
+      there-name : nameShown limits counts i words ≡ nameAt (namesBy (bytesAt limits) (counts .names) words) i
+      there-name =
+          let z : i + i + 0 ≡ i + i = omega arith in
+          shown-there limits counts words i held-there
+          ∙ rw (shown 0 (omega arith), shown 1 (omega arith), z)
+          (sym (by-pieces (bytesAt limits) (counts .names) (counts .bytes) words fits (h .ends) i g))
 
     pub shown-name : nameShown limits counts i words ≡ nameAt (tableOf limits counts words) i
     unfolding tableOf
     shown-name = go (decLt i (counts .names))
       where
-        go : Dec (i < counts .names) → nameShown limits counts i words ≡ nameAt (pairs (pieces (bytesAt limits) (take (counts .names + counts .names) words) words)) i
-        go (yes g) =
-            let s : sum (take (i + i + 2) words) ≤ min (counts .bytes) (limits .bytes) = omega (arith, sum-take-le words (i + i + 2) (counts .names + counts .names) (omega arith)) in
-            let t : nameThere limits counts i words ≡ true = there-leb limits counts words i (omega arith) ∙ le-leb (sum (take (i + i + 2) words)) (min (counts .bytes) (limits .bytes)) s in
-            let z : i + i + 0 ≡ i + i = omega arith in
-            shown-there limits counts words i t
-            ∙ rw (shown 0 (omega arith) g, shown 1 (omega arith) g, z)
-            (sym (getD-pairs i (pieces (bytesAt limits) (take (counts .names + counts .names) words) words) (omega (arith, taken))))
+        go : Dec (i < counts .names) → nameShown limits counts i words ≡ nameAt (namesBy (bytesAt limits) (counts .names) words) i
+        go (yes g) = there-name g
         go (no g) =
             shown-none limits counts words i (there-number limits counts words i (omega arith))
-            ∙ sym (nameAt-none (pairs (pieces (bytesAt limits) (take (counts .names + counts .names) words) words)) i
-            (omega (arith, length-pairs (counts .names) (pieces (bytesAt limits) (take (counts .names + counts .names) words) words) taken)))
+            ∙ sym (List·getD-eq-default (namesBy (bytesAt limits) (counts .names) words) none {n = i}
+            (omega (arith, by-names (bytesAt limits) (counts .names) (counts .bytes) words fits (h .ends))))

@@ -46,11 +46,12 @@ pub fn find_name(
     ensures { λ r. ⌜ r ≡ numberOf (tableOf limits counts (now (words .entry))) (name (now (namespace .entry)) (now (local .entry))) ⌝ }
 {
     let n = counts.names;
-    let mut at = limits.names + limits.names;
+    let base = limits.names + limits.names;
+    let mut at = base;
     let mut k = 0;
     while k < n {
-        let middle = at + words[k + k] as usize;
-        let end = middle + words[k + k + 1] as usize;
+        let middle = base + words[k + k] as usize;
+        let end = base + words[k + k + 1] as usize;
         if same_name(words, at, middle, end, namespace, local) {
             return k;
         }
@@ -95,15 +96,14 @@ fn append_name(
     let number = counts.names;
     let used = counts.bytes;
     let k = number + number;
-    let n = namespace.len();
-    let m = local.len();
-    words[k] = n as u64;
-    words[k + 1] = m as u64;
+    let middle = used + namespace.len();
+    let bytes = middle + local.len();
+    words[k] = middle as u64;
+    words[k + 1] = bytes as u64;
     let at = limits.names + limits.names + used;
     words::pieces::write_bytes(words, at, namespace);
-    words::pieces::write_bytes(words, at + n, local);
+    words::pieces::write_bytes(words, at + namespace.len(), local);
     let names = number + 1;
-    let bytes = used + (n + m);
     NameCounts { names, bytes }
 }
 

@@ -1,8 +1,11 @@
-// The name table: (namespace, local) pairs, each once. Its words are two lengths a name, then the bytes, one a word.
+// The name table: (namespace, local) pairs, each once. Its words are two ends a name, then the bytes, one a word.
 ghost use mathlib.Core.Path.{_≡_};
-ghost use Prim.Native.Nat.{_+_, _≤_};
+ghost use mathlib.Core.Bool.{_&&_};
+ghost use Prim.Native.Nat.{_+_, _≤_, _<_};
 ghost use lib.ListN.{length};
+ghost use Rattle.words.specs.Ends.{pieceThere};
 ghost use Rattle.names.specs.Words.{bytesAt, tableOk, partShown, nameThere};
+use words::ends::piece_there;
 
 pub mod interning;
 
@@ -18,7 +21,7 @@ pub struct NameCounts {
     pub bytes: usize,
 }
 
-// Whether the counts are within the limits and the lengths add to the bytes used.
+// Whether the counts are within the limits and the ends reach the bytes used.
 pub fn check_names(words: &[u64], limits: NameLimits, counts: NameCounts) -> bool
     requires { ⌜ length (now words) ≡ bytesAt limits + limits .bytes ⌝ }
     ensures { λ r. ⌜ r ≡ tableOk limits counts (now (words .entry)) ⌝ }
@@ -31,7 +34,7 @@ pub fn check_names(words: &[u64], limits: NameLimits, counts: NameCounts) -> boo
     if used > limits.bytes {
         return false;
     }
-    words::pieces::bounded_sum(words, n + n, used) == used
+    words::ends::check_ends(words, n + n, used)
 }
 
 // Part 0 of a name, its namespace, or part 1, its local part; empty for a number outside the table or bytes outside the pool.
@@ -43,7 +46,7 @@ fn read_part(words: &[u64], limits: NameLimits, counts: NameCounts, i: usize, k:
     let n = words::least(counts.names, limit);
     if i < n {
         let used = words::least(counts.bytes, limits.bytes);
-        return words::pieces::piece(words, limit + limit, n + n, used, i + i + k);
+        return words::ends::piece(words, limit + limit, n + n, used, i + i + k);
     }
     &words[..0]
 }
@@ -62,7 +65,18 @@ pub fn read_local(words: &[u64], limits: NameLimits, counts: NameCounts, i: usiz
     read_part(words, limits, counts, i, 1)
 }
 
-// Whether there is a name at the number.
+// Whether piece i and the one behind it are there.
+fn both_there(words: &[u64], count: usize, used: usize, i: usize) -> bool
+    requires { ⌜ (count ≤ length (now words)) × (i < count) ⌝ }
+    ensures { λ r. ⌜ r ≡ (pieceThere count used i (now (words .entry)) && pieceThere count used (i + 1) (now (words .entry))) ⌝ }
+{
+    if piece_there(words, count, used, i) {
+        return piece_there(words, count, used, i + 1);
+    }
+    false
+}
+
+// Whether there is a name at the number: two words for each of its parts.
 pub fn has_name(words: &[u64], limits: NameLimits, counts: NameCounts, i: usize) -> bool
     requires { ⌜ length (now words) ≡ bytesAt limits + limits .bytes ⌝ }
     ensures { λ r. ⌜ r ≡ nameThere limits counts i (now (words .entry)) ⌝ }
@@ -72,5 +86,5 @@ pub fn has_name(words: &[u64], limits: NameLimits, counts: NameCounts, i: usize)
         return false;
     }
     let used = words::least(counts.bytes, limits.bytes);
-    words::pieces::bounded_sum(words, i + i + 2, used) <= used
+    both_there(words, n + n, used, i + i)
 }

@@ -4,7 +4,7 @@ use mathlib.Core.Path.{_≡_, sym}
 use mathlib.Core.List.{List}
 use Prim.Native.Nat.{ℕ, _+_, min}
 use native.Mathlib.Omega.{arith}
-use Rattle.words.specs.Pieces.{pieceOf}
+use Rattle.words.specs.Ends.{pieceShown}
 use Rattle.names.specs.Words.{bytesAt, partShown}
 use Rattle.names.specs.declared.NameLimits.{NameLimits}
 use Rattle.names.specs.declared.NameCounts.{NameCounts}
@@ -14,7 +14,7 @@ use Rattle.names.proofs.read_part.Statement.{statement}
 use Rattle.names.proofs.read_part.Tie as tie
 
 shown : (limits : NameLimits) (counts : NameCounts) (i k : ℕ) (words r : List ℕ) (n used : ℕ) → n ≡ min (counts .names) (limits .names) → used ≡ min (counts .bytes) (limits .bytes)
-    → r ≡ pieceOf (bytesAt limits) (n + n) used (i + i + k) words → r ≡ partShown limits counts i k words
+    → r ≡ pieceShown (bytesAt limits) (n + n) used (i + i + k) words → r ≡ partShown limits counts i k words
 unfolding partShown
 shown limits counts i k words r n used a b e = rw (a, b) at e
 

@@ -10,6 +10,12 @@ use Rattle.names.proofs.interning.append_name.Tie as tie
 add-k : tie.Need-add-k
 add-k c = search needs
 
+add-middle : tie.Need-add-middle
+add-middle c = search needs
+
+add-bytes : tie.Need-add-bytes
+add-bytes c = search needs
+
 mul-words : tie.Need-mul-words
 mul-words c = search needs
 
@@ -43,12 +49,6 @@ write-bytes-requires-2 c κs = omega (arith, simp length-set at (c .before .befo
 add-names : tie.Need-add-names
 add-names c = search needs
 
-add-bytes : tie.Need-add-bytes
-add-bytes c = search needs
-
-add-bytes-2 : tie.Need-add-bytes-2
-add-bytes-2 c = search needs
-
 same-length : tie.Need-same-length
 same-length c = omega (arith, simp length-set at (c .before .before .before .before .before .before .write-bytes .kept .0))
 
@@ -64,6 +64,8 @@ append-name-spec =
     tie.close
     (tie.spec
     add-k
+    add-middle
+    add-bytes
     mul-words
     slice-write-words
     add-words
@@ -75,7 +77,5 @@ append-name-spec =
     add-write-bytes
     write-bytes-requires-2
     add-names
-    add-bytes
-    add-bytes-2
     same-length
     returns)
