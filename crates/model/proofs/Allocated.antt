@@ -48,7 +48,7 @@ pub record Allocated (d : Doc) (x g : ℕ) (k : Kind ℕ (Option ℕ)) (gens : L
   pub within : length gens ≤ d .limits .nodes
 
 -- the document with these columns
-abbrev pub with-columns : Doc → List ℕ → List ℕ → Kinds → List (Option ℕ) → (Which → List Block) → Pool → List Name → Doc
+abbrev pub with-columns : Doc → List ℕ → List ℕ → Kinds → List (Option ℕ) → (Which → List Block) → Pool → List (Option Name) → Doc
 with-columns d gens free kinds parents ranges p n = record {
   limits = d .limits;
   gens = gens;
@@ -98,7 +98,7 @@ module _ (d : Doc) (t : Tree) (hs : ℕ → ℕ) (S : Sim d t hs) (k : Kind ℕ 
         genFits i lt (yes e) = rw (e, getD-snoc-same (d .gens) 0 0) (omega arith)
         genFits i lt (no n) = rw (getD-snoc-other (d .gens) 0 0 i n) (S .generations i (omega arith))
 
-    pub appended-free : d .free ≡ [] → (kinds : Kinds) (parents : List (Option ℕ)) (ranges : Which → List Block) (p : Pool) (n : List Name)
+    pub appended-free : d .free ≡ [] → (kinds : Kinds) (parents : List (Option ℕ)) (ranges : Which → List Block) (p : Pool) (n : List (Option Name))
         → FreeSlots (with-columns d (d .gens ++ (0 ∷ [])) [] kinds parents ranges p n)
     appended-free e kinds parents ranges p n = record { odd = λ i m. absurd (List·Memᴰ·not-nil m); all = all; once = tt }
       where
@@ -149,7 +149,7 @@ module _ (d : Doc) (t : Tree) (hs : ℕ → ℕ) (S : Sim d t hs) (k : Kind ℕ 
         genFits i lt (yes q) = rw (q, getD-set-same (d .gens) j (up (generationAt d j)) 0 inside) (omega arith)
         genFits i lt (no n) = rw (getD-set-other (d .gens) j i (up (generationAt d j)) 0 n) (S .generations i lt)
 
-    pub reused-free : (kinds : Kinds) (parents : List (Option ℕ)) (ranges : Which → List Block) (p : Pool) (n : List Name)
+    pub reused-free : (kinds : Kinds) (parents : List (Option ℕ)) (ranges : Which → List Block) (p : Pool) (n : List (Option Name))
         → FreeSlots (with-columns d (set (d .gens) j (up (generationAt d j))) l kinds parents ranges p n)
     reused-free kinds parents ranges p n = record { odd = odd; all = all; once = once .1 }
       where

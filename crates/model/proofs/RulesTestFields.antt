@@ -12,7 +12,7 @@ use Rattle.words.specs.Lists.{countOf, allBelow, joined}
 use Rattle.words.proofs.Lists.{allBelow-at, at-allBelow}
 use Rattle.words.proofs.Tests.{and-left, and-right}
 use Rattle.texts.specs.Pool.{bytesOf}
-use Rattle.names.specs.Table.{nameBytes}
+use Rattle.names.specs.Table.{entryBytes}
 use Rattle.model.specs.Kinds.{Kind, root, Which, isRoot}
 use Rattle.model.specs.Doc.{Doc, generationAt, kindIn, parentIn, even, isSome, isNone, anyOption}
 use Rattle.model.specs.Rules.{CountsAndFields, FreeList}
@@ -43,7 +43,7 @@ fields-of-test d h = record {
   texts = leb-true (length (d .pool .texts)) (d .limits .texts) (search (and-left, and-right) depth 8);
   textBytes = leb-true (length (bytesOf (d .pool .texts))) (d .limits .textBytes) (search (and-left, and-right) depth 8);
   names = leb-true (length (d .names)) (d .limits .names) (search (and-left, and-right) depth 8);
-  nameBytes = leb-true (length (joined nameBytes (d .names))) (d .limits .nameBytes) (search (and-left, and-right) depth 8);
+  nameBytes = leb-true (length (joined entryBytes (d .names))) (d .limits .nameBytes) (search (and-left, and-right) depth 8);
   generations = λ i b. ltb-true (getD (d .gens) i 0) 4294967296 (slots-at d (λ i. fitsField (getD (d .gens) i 0)) (search (and-left, and-right) depth 8) i b);
   nodes = λ i e.
       implies-true (even (generationAt d i)) (isSome (getD (d .kinds) i none))
@@ -71,7 +71,7 @@ test-of-counts d R =
       le-leb (length (d .pool .texts)) (d .limits .texts) (R .texts),
       le-leb (length (bytesOf (d .pool .texts))) (d .limits .textBytes) (R .textBytes),
       le-leb (length (d .names)) (d .limits .names) (R .names),
-      le-leb (length (joined nameBytes (d .names))) (d .limits .nameBytes) (R .nameBytes),
+      le-leb (length (joined entryBytes (d .names))) (d .limits .nameBytes) (R .nameBytes),
     )
 
 test-of-words : (d : Doc) → CountsAndFields d → wordsWithin d ≡ true

@@ -148,10 +148,10 @@ held-there (some x) l s m = List·Memᴰ·tail m
 -- ---- a node is shown by the pairs of its names and the bytes of its texts
 
 -- the node with the names and the texts of these tables
-abbrev pub shownBy : List Name → Pool → Kind ℕ (Option ℕ) → Kind Name (List ℕ)
+abbrev pub shownBy : List (Option Name) → Pool → Kind ℕ (Option ℕ) → Kind Name (List ℕ)
 shownBy names p k = mapKind (λ n. orElse (name [] []) (nameAt names n)) (textAt p) k
 
-module _ (names names′ : List Name) (p p′ : Pool) where
+module _ (names names′ : List (Option Name)) (p p′ : Pool) where
   text-kept : (l : List (Option ℕ)) → ((s : ℕ) → List·Memᴰ s (slotsHeld l) → textAt p′ (some s) ≡ textAt p (some s)) → (o : Option ℕ)
       → ((s : ℕ) → o ≡ some s → List·Memᴰ s (slotsHeld l)) → textAt p′ o ≡ textAt p o
   text-kept l h none there = refl

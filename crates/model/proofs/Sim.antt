@@ -11,7 +11,7 @@ use Rattle.words.specs.Lists.{joined}
 use Rattle.blocks.specs.Rule.{BlocksApart}
 use Rattle.slots.specs.Handles.{handleIndex, handleGeneration}
 use Rattle.texts.specs.Pool.{bytesOf}
-use Rattle.names.specs.Table.{nameBytes}
+use Rattle.names.specs.Table.{entryBytes}
 use Rattle.model.specs.Kinds.{Which, textsOf, namesOf}
 use Rattle.model.specs.Doc.{Doc, limitsOk, rootHandle, noKey, generationAt, liveSlot, kindAt, nodeAt, parentAt, listAt, even, isSome, mapOption}
 use Rattle.model.specs.Calls.{keyOf}
@@ -32,7 +32,7 @@ pub record Within (d : Doc) : Type 0 where
   pub texts : length (d .pool .texts) ≤ d .limits .texts
   pub textBytes : length (bytesOf (d .pool .texts)) ≤ d .limits .textBytes
   pub names : length (d .names) ≤ d .limits .names
-  pub nameBytes : length (joined nameBytes (d .names)) ≤ d .limits .nameBytes
+  pub nameBytes : length (joined entryBytes (d .names)) ≤ d .limits .nameBytes
 
 -- the text slots that a handle's node holds
 abbrev pub fields : Doc → ℕ → List ℕ

@@ -25,7 +25,7 @@ use Rattle.model.proofs.SimEdits.{sim-attach}
 use Rattle.model.proofs.Stores.{Stores}
 use Rattle.model.proofs.SimBorn.{sim-born}
 
-module _ (d : Doc) (t : Tree) (hs : ℕ → ℕ) (S : Sim d t hs) (k : Kind ℕ (Option ℕ)) (pool : Pool) (names : List Name) where
+module _ (d : Doc) (t : Tree) (hs : ℕ → ℕ) (S : Sim d t hs) (k : Kind ℕ (Option ℕ)) (pool : Pool) (names : List (Option Name)) where
   -- a birth takes no arena entry and leaves every live node's block
   pub room-born : (w : Which) (p : ℕ) → t .live p ≡ true → roomFits (born d k pool names) w (hs p) ≡ roomFits d w (hs p)
   unfolding born

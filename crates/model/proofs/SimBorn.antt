@@ -35,7 +35,7 @@ use Rattle.model.proofs.Stores.{Stores}
 use Rattle.model.proofs.Allocated.{Kinds, Allocated, with-columns, appended, appended-free, reused, reused-free, inside}
 
 -- the new node is birth n, in the slot of its handle, with no list yet
-module _ (d : Doc) (t : Tree) (hs : ℕ → ℕ) (S : Sim d t hs) (k : Kind ℕ (Option ℕ)) (p : Pool) (names : List Name) (kind : Kind Name (List ℕ))
+module _ (d : Doc) (t : Tree) (hs : ℕ → ℕ) (S : Sim d t hs) (k : Kind ℕ (Option ℕ)) (p : Pool) (names : List (Option Name)) (kind : Kind Name (List ℕ))
     (K : Stores d k p names kind) (gens free : List ℕ) (kinds : Kinds) (parents : List (Option ℕ)) (ranges : Which → List Block)
     (A : Allocated d (handleIndex (hs (t .births))) (handleGeneration (hs (t .births))) k gens kinds parents ranges)
     (F : FreeSlots (with-columns d gens free kinds parents ranges p names)) where
@@ -224,7 +224,7 @@ at-handle {d} {k} {gens} {kinds} {parents} {ranges} x g h e lt A =
     (subst (λ (y : ℕ). Allocated d y g k gens kinds parents ranges) (sym (ap handleIndex e ∙ index-handleWord x g lt)) A)
 
 -- the handle told for the new birth is the next one
-pub sim-born : (d : Doc) (t : Tree) (hs : ℕ → ℕ) → Sim d t hs → (k : Kind ℕ (Option ℕ)) (p : Pool) (names : List Name) (kind : Kind Name (List ℕ))
+pub sim-born : (d : Doc) (t : Tree) (hs : ℕ → ℕ) → Sim d t hs → (k : Kind ℕ (Option ℕ)) (p : Pool) (names : List (Option Name)) (kind : Kind Name (List ℕ))
     → Stores d k p names kind → slotFits d ≡ true → hs (t .births) ≡ nextHandle d → Sim (born d k p names) (tree.born t kind) hs
 unfolding born
 sim-born d t hs S k p names kind K room told = go (d .free) refl room told

@@ -37,7 +37,7 @@ use Rattle.model.proofs.Runs.{Told}
 
 module _ (d : Doc) (t : Tree) (hs : ℕ → ℕ) (S : Sim d t hs) (W : WF t) where
   -- a node at the end of p's list
-  pub appended-same : (w : Which) (p : ℕ) (k : Kind ℕ (Option ℕ)) (pool : Pool) (names : List Name) (kind : Kind Name (List ℕ))
+  pub appended-same : (w : Which) (p : ℕ) (k : Kind ℕ (Option ℕ)) (pool : Pool) (names : List (Option Name)) (kind : Kind Name (List ℕ))
       → t .live p ≡ true → whichOf kind ≡ w → owns w (t .kind p) ≡ true → isRoot kind ≡ false → (p ≡ 0 → isElement kind ≡ true → NoRootElement t)
       → Stores d k pool names kind → nodeFits d w (hs p) ≡ true → hs (t .births) ≡ nextHandle d
       → Sim (appended d w (hs p) k pool names) (tree.appended t w p kind) hs × WF (tree.appended t w p kind)
@@ -61,7 +61,7 @@ module _ (d : Doc) (t : Tree) (hs : ℕ → ℕ) (S : Sim d t hs) (W : WF t) whe
   appended-births w p kind = omega arith
 
   -- a child, under the checks n and the test of its texts and name
-  appends-child : (n : ℕ) (holds : Bool) (p : ℕ) (k : Kind ℕ (Option ℕ)) (pool : Pool) (names : List Name) (kind : Kind Name (List ℕ))
+  appends-child : (n : ℕ) (holds : Bool) (p : ℕ) (k : Kind ℕ (Option ℕ)) (pool : Pool) (names : List (Option Name)) (kind : Kind Name (List ℕ))
       → t .live p ≡ true → whichOf kind ≡ children → isRoot kind ≡ false
       → (n ≡ 0 → (isContainer (t .kind p) ≡ true) × (p ≡ 0 → isElement kind ≡ true → NoRootElement t))
       → (holds ≡ true → Stores d k pool names kind)

@@ -114,7 +114,7 @@ module _ (d : Doc) (t : Tree) (hs : ℕ → ℕ) (S : Sim d t hs) (W : WF t) whe
   told-nested (suc n) fits from o u full more h z f = absurd (omega arith)
 
   -- the last handle in the element's list after the call is the next one, whatever is told
-  last-is-next : (w : Which) (e : ℕ) (k : Kind ℕ (Option ℕ)) (pool : Pool) (names : List Name) (kind : Kind Name (List ℕ))
+  last-is-next : (w : Which) (e : ℕ) (k : Kind ℕ (Option ℕ)) (pool : Pool) (names : List (Option Name)) (kind : Kind Name (List ℕ))
       → t .live e ≡ true → whichOf kind ≡ w → owns w (t .kind e) ≡ true → isRoot kind ≡ false → isElement kind ≡ false
       → Stores d k pool names kind → nodeFits d w (hs e) ≡ true → lastOf (shownList (appended d w (hs e) k pool names) w (hs e)) ≡ nextHandle d
   unfolding tree.born tree.setParent tree.setList

@@ -14,7 +14,7 @@ use Rattle.words.specs.Lists.{joined}
 use Rattle.words.proofs.Tests.{and-left, and-right}
 use Rattle.texts.specs.Pool.{Pool, bytesOf, textAt, storedSlot, stored, slotsFor}
 use Rattle.texts.proofs.Pool.{stored-same, stored-fits, stored-stored-fits}
-use Rattle.names.specs.Table.{Name, name, nameBytes, numberOf, interned, nameAt}
+use Rattle.names.specs.Table.{Name, name, entryBytes, numberOf, interned, nameAt}
 use Rattle.names.proofs.Table.{interned-number, interned-back, interned-old, interned-count, interned-fits}
 use Rattle.model.specs.Kinds.{Kind, element, attribute, text, comment, namespace, instruction, namesOf, textsOf}
 use Rattle.model.specs.Doc.{Doc, orElse}
@@ -30,14 +30,14 @@ pub record PoolFits (d : Doc) (p : Pool) : Type 0 where
   pub texts : length (p .texts) ≤ d .limits .texts
   pub bytes : length (bytesOf (p .texts)) ≤ d .limits .textBytes
 
-pub record NamesKeep (d : Doc) (n : List Name) : Type 0 where
+pub record NamesKeep (d : Doc) (n : List (Option Name)) : Type 0 where
   pub grows : length (d .names) ≤ length n
   pub kept : (i : ℕ) → i < length (d .names) → nameAt n i ≡ nameAt (d .names) i
   pub names : length n ≤ d .limits .names
-  pub bytes : length (joined nameBytes n) ≤ d .limits .nameBytes
+  pub bytes : length (joined entryBytes n) ≤ d .limits .nameBytes
 
 -- the pool p and the names n hold what the kind k shows as the tree's kind
-pub record Stores (d : Doc) (k : Kind ℕ (Option ℕ)) (p : Pool) (n : List Name) (kind : Kind Name (List ℕ)) : Type 0 where
+pub record Stores (d : Doc) (k : Kind ℕ (Option ℕ)) (p : Pool) (n : List (Option Name)) (kind : Kind Name (List ℕ)) : Type 0 where
   pub pool : Repooled (d .pool) p [] (slotsHeld (textsOf k)) none
   pub poolFits : PoolFits d p
   pub names : NamesKeep d n
@@ -59,7 +59,7 @@ module _ (d : Doc) (t : Tree) (hs : ℕ → ℕ) (S : Sim d t hs) where
 
   names-interned : (n : Name) → nameFitsIn d n ≡ true → NamesKeep d (interned (d .names) n)
   names-interned n e =
-      let f = fits-both (length (interned (d .names) n)) (d .limits .names) (length (joined nameBytes (interned (d .names) n))) (d .limits .nameBytes)
+      let f = fits-both (length (interned (d .names) n)) (d .limits .names) (length (joined entryBytes (interned (d .names) n))) (d .limits .nameBytes)
       (sym (interned-fits (d .names) n (d .limits .names) (d .limits .nameBytes) (S .within .names) (S .within .nameBytes)) ∙ e) in
       record {
         grows = rw (interned-count (d .names) n) (more (ltb (numberOf (d .names) n) (length (d .names))));

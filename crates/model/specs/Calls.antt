@@ -124,12 +124,12 @@ fullUnless fits = refuseIf (not fits) 14
 -- ---- edits
 
 -- a new node at the end of a list
-abbrev pub appended : Doc → Which → ℕ → Kind ℕ (Option ℕ) → Pool → List Name → Doc
+abbrev pub appended : Doc → Which → ℕ → Kind ℕ (Option ℕ) → Pool → List (Option Name) → Doc
 appended d w p k pool names =
     let e = born d k pool names in
     attach e w p (length (listAt e w p)) (nextHandle d)
 
-abbrev pub appends : Doc → ℕ → Kind ℕ (Option ℕ) → Pool → List Name → Out
+abbrev pub appends : Doc → ℕ → Kind ℕ (Option ℕ) → Pool → List (Option Name) → Out
 appends d p k pool names = answers (appended d children p k pool names) (made (nextHandle d))
 
 -- a node's text replaced

@@ -45,7 +45,8 @@ pub record Doc : Type 0 where
   pub order : List ℕ
   pub current : Bool
   pub pool : Pool
-  pub names : List Name
+  -- the pair of each number; none where the bytes of a damaged table show no pair
+  pub names : List (Option Name)
   -- what only the words show: that the counts are within the limits (rule 1), and that the lengths of texts and names add to the bytes used (rule 8)
   pub countsFit : Bool
   pub lengthsFit : Bool

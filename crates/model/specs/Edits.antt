@@ -84,7 +84,7 @@ abbrev pub nextHandle : Doc → ℕ
 nextHandle d = nextFrom (d .free) d
 
 -- a new node in no list yet, all its blocks (0, 0), with the pool and the names that hold what it shows
-abbrev pub bornFrom : List ℕ → Doc → Kind ℕ (Option ℕ) → Pool → List Name → Doc
+abbrev pub bornFrom : List ℕ → Doc → Kind ℕ (Option ℕ) → Pool → List (Option Name) → Doc
 bornFrom [] d k p n = record {
   limits = d .limits;
   gens = d .gens ++ (0 ∷ []);
@@ -116,7 +116,7 @@ bornFrom (i ∷ l) d k p n = record {
   lengthsFit = d .lengthsFit;
 }
 
-unfoldable pub born : Doc → Kind ℕ (Option ℕ) → Pool → List Name → Doc
+unfoldable pub born : Doc → Kind ℕ (Option ℕ) → Pool → List (Option Name) → Doc
 born d k p n = bornFrom (d .free) d k p n
 
 -- ---- blocks

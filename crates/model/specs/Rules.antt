@@ -10,7 +10,7 @@ use Rattle.words.specs.Lists.{countOf, joined, tabulate}
 use Rattle.blocks.specs.Arena.{Block, block}
 use Rattle.blocks.specs.Rule.{BlocksApart}
 use Rattle.texts.specs.Pool.{bytesOf}
-use Rattle.names.specs.Table.{nameBytes}
+use Rattle.names.specs.Table.{entryBytes}
 use Rattle.slots.specs.Handles.{handleIndex}
 use Rattle.model.specs.Kinds.{Kind, root, Which, children, attributes, namespaces, sameWhich, isElement, isRoot, owns, whichOf, namesOf, textsOf}
 use Rattle.model.specs.Doc.{Doc, rootHandle, generationAt, liveSlot, handleAt, resolves, kindIn, kindAt, parentIn, parentAt, rangeIn, listIn, listAt, even, isSome}
@@ -39,7 +39,7 @@ pub record CountsAndFields (d : Doc) : Type 0 where
   pub texts : length (d .pool .texts) ≤ d .limits .texts
   pub textBytes : length (bytesOf (d .pool .texts)) ≤ d .limits .textBytes
   pub names : length (d .names) ≤ d .limits .names
-  pub nameBytes : length (joined nameBytes (d .names)) ≤ d .limits .nameBytes
+  pub nameBytes : length (joined entryBytes (d .names)) ≤ d .limits .nameBytes
   pub generations : (i : ℕ) → i < length (d .gens) → getD (d .gens) i 0 < 4294967296
   pub nodes : (i : ℕ) → even (generationAt d i) ≡ true → isSome (getD (d .kinds) i none) ≡ true
   pub orderWords : (i : ℕ) → i < length (d .gens) → getD (d .order) i 0 < 4294967296

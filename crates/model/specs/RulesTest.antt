@@ -8,7 +8,7 @@ use lib.Dec.{eqb, leb, ltb}
 use Rattle.words.specs.Lists.{countOf, all, allBelow, joined}
 use Rattle.blocks.specs.Arena.{Arena, Block, capOf}
 use Rattle.texts.specs.Pool.{bytesOf}
-use Rattle.names.specs.Table.{nameBytes}
+use Rattle.names.specs.Table.{entryBytes}
 use Rattle.slots.specs.Handles.{handleIndex}
 use Rattle.model.specs.Kinds.{Which, children, attributes, namespaces, sameWhich, isElement, isRoot, owns, whichOf, namesOf}
 use Rattle.model.specs.Doc.{Doc, generationAt, liveSlot, handleAt, resolves, kindIn, kindAt, parentIn, parentAt, listIn, listAt, even, isSome, isNone, anyOption}
@@ -43,7 +43,7 @@ unfoldable pub countsWithin : Doc → Bool
 countsWithin d =
     d .countsFit && leb (length (d .gens)) (d .limits .nodes)
     && leb (length (d .pool .texts)) (d .limits .texts) && leb (length (bytesOf (d .pool .texts))) (d .limits .textBytes)
-    && leb (length (d .names)) (d .limits .names) && leb (length (joined nameBytes (d .names))) (d .limits .nameBytes)
+    && leb (length (d .names)) (d .limits .names) && leb (length (joined entryBytes (d .names))) (d .limits .nameBytes)
 
 unfoldable pub wordsWithin : Doc → Bool
 wordsWithin d =

@@ -1,11 +1,9 @@
 -- Where a text is shown to lie, in memory that may be damaged.
 -- Assumes nothing.
 use mathlib.Core.Path.{_≡_}
-use mathlib.Core.Logic.{_⊎_}
 use mathlib.Core.List.{List, []}
 use Prim.Native.Nat.{ℕ, _+_, _≤_, min}
 use Rattle.words.specs.Parts.{part}
-use Rattle.words.specs.Ends.{startOf, lengthOf}
 use Rattle.words.specs.declared.ends.Place.{Place}
 use Rattle.words.proofs.Places as place
 use Rattle.texts.specs.Words.{bytesAt, placeShown, textShown}
@@ -19,17 +17,9 @@ module _ (limits : TextLimits) (counts : TextCounts) (slot : ℕ) (words : List 
   abbrev used : ℕ
   used = min (counts .bytes) (limits .bytes)
 
-  pub shown-either : (placeShown limits counts slot words ≡ record { start = startOf words slot; len = lengthOf words slot }) ⊎ (placeShown limits counts slot words ≡ record { start = 0; len = 0 })
-  unfolding placeShown
-  shown-either = place.place-either count used slot words
-
   pub shown-nowhere : min (counts .slots) (limits .slots) ≤ slot → placeShown limits counts slot words ≡ record { start = 0; len = 0 }
   unfolding placeShown
   shown-nowhere h = place.place-nowhere count used slot words (place.there-number count used slot words h)
-
-  pub shown-fits : placeShown limits counts slot words .start + placeShown limits counts slot words .len ≤ min (counts .bytes) (limits .bytes)
-  unfolding placeShown
-  shown-fits = place.place-fits count used slot words
 
   -- the text at a place that is shown
   pub shown-at : (p : Place) → placeShown limits counts slot words ≡ p → textShown limits counts slot words ≡ part (bytesAt limits + p .start) (p .len) words
