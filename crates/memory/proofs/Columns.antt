@@ -2,7 +2,7 @@
 -- Assumes nothing.
 use mathlib.Core.Path.{_≡_, refl, sym, ap, _∙_}
 use mathlib.Core.Bool.{Bool, true, false, _&&_, cond, and-false}
-use mathlib.Core.Option.{none}
+use mathlib.Core.Option.{Option, none}
 use mathlib.Core.List.{List}
 use Prim.Native.Nat.{ℕ, _%_, _≤_, _<_}
 use native.Mathlib.Omega.{arith}
@@ -33,7 +33,7 @@ use Rattle.memory.specs.Decode.{kindOf, handleOf, rangeOf, kindLoaded, p
 past-tabulate : {A : Type 0} (f : ℕ → A) (n i : ℕ) (e : A) → n ≤ i → getD (tabulate f n) i e ≡ e
 past-tabulate f n i e h = List·getD-eq-default (tabulate f n) e {n = i} (omega (arith, length-tabulate f n))
 
-module _ (p : Pool) (names : List Name) (lengths : Bool) (d : Document) (mem : List ℕ) where
+module _ (p : Pool) (names : List (Option Name)) (lengths : Bool) (d : Document) (mem : List ℕ) where
   abbrev D : Doc
   D = decodeWith p names lengths d mem
 

@@ -13,7 +13,7 @@ use Rattle.names.specs.Words.{nameShown}
 use Rattle.model.specs.Kinds.{Which, children}
 use Rattle.memory.specs.declared.layout.Document.{Document}
 use Rattle.memory.specs.Layout.{limitsOf, entriesOf, arenaAt, textsAt, textsWords, namesAt, namesWords, documentWords}
-use Rattle.memory.specs.Decode.{textLimits, textCounts, nameLimits, nameCounts, textsPart, namesPart, shownBelow, poolIn, namesIn, lengthsAdd, decodeWith, decode}
+use Rattle.memory.specs.Decode.{textLimits, textCounts, nameLimits, nameCounts, textsPart, namesPart, poolIn, namesIn, lengthsAdd, decodeWith, decode}
 use Rattle.memory.specs.Writing.{putSlots, putArena}
 use Rattle.memory.proofs.Limits.{arena-behind-slots, arena-inside, names-next, words-next}
 use Rattle.memory.proofs.Shaped.{part-take, decode-front}
@@ -42,7 +42,7 @@ decode-kept d mem mem′ k = λ i. decodeWith (pool i) (names i) (lengths-kept d
         }
 
     names : namesIn d mem′ ≡ namesIn d mem
-    names = λ i. shownBelow (λ n. nameShown (nameLimits d) (nameCounts d) n (k .names i)) (min (d .counts .names) (d .limits .names))
+    names = λ i. tabulate (λ n. nameShown (nameLimits d) (nameCounts d) n (k .names i)) (min (d .counts .names) (d .limits .names))
 
 module _ (d : Document) (mem words : List ℕ) where
   -- what is put before the texts does not meet them

@@ -2,6 +2,7 @@
 -- Assumes nothing.
 use mathlib.Core.Path.{_≡_, refl, sym, ap, _∙_}
 use mathlib.Core.Bool.{Bool, true, false, false≢true}
+use mathlib.Core.Option.{Option}
 use mathlib.Core.List.{List}
 use Prim.Native.Nat.{ℕ, _+_, _≤_, _<_}
 use native.Mathlib.Nat.{min-eq-left}
@@ -52,7 +53,7 @@ pub record EditFits (limit : ℕ) (e : Edit) : Type 0 where
   pub used : e .arena .used ≤ limit
   pub fits : RangeFits (rangeFrom (e .block))
 
-module _ (p : Pool) (names : List Name) (lengths : Bool) (d : Document) (mem : List ℕ) (ok : memoryOk d (length mem) ≡ true)
+module _ (p : Pool) (names : List (Option Name)) (lengths : Bool) (d : Document) (mem : List ℕ) (ok : memoryOk d (length mem) ≡ true)
     (counts : countsWithin (limitsOf (d .limits)) (d .counts) ≡ true)
     (w : Which) (s : ℕ) (made : s < slotsMade d)
     (m : Node) (loaded : loadedAt (d .limits .nodes) (slotsPart d mem) s ≡ Found m) (has : hasRange w (kindOf (m .«data»)) ≡ true)

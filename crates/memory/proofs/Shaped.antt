@@ -106,7 +106,7 @@ loaded-unused w (Found m) f k e h =
 
 -- ---- the shape
 
-module _ (p : Pool) (names : List Name) (lengths : Bool) (d : Document) (mem : List ℕ) where
+module _ (p : Pool) (names : List (Option Name)) (lengths : Bool) (d : Document) (mem : List ℕ) where
   abbrev n : ℕ
   n = d .limits .nodes
 
@@ -140,7 +140,7 @@ module _ (p : Pool) (names : List Name) (lengths : Bool) (d : Document) (mem : L
 
 -- ---- only the words of the layout are read
 
-module _ (p : Pool) (names : List Name) (lengths : Bool) (d : Document) (mem mem′ : List ℕ) where
+module _ (p : Pool) (names : List (Option Name)) (lengths : Bool) (d : Document) (mem mem′ : List ℕ) where
   pub decode-same : slotsPart d mem′ ≡ slotsPart d mem → ((a : Which) → arenaPart d a mem′ ≡ arenaPart d a mem)
       → decodeWith p names lengths d mem′ ≡ decodeWith p names lengths d mem
   decode-same e q = λ i. documentOf p names lengths d (e i) (λ a. q a i)
@@ -151,7 +151,7 @@ part-take l s n k h =
     let e : 0 + s ≡ s = omega arith in
     rw e at (part-part l 0 k s n h)
 
-pub decode-front : (p : Pool) (names : List Name) (lengths : Bool) (d : Document) (mem : List ℕ)
+pub decode-front : (p : Pool) (names : List (Option Name)) (lengths : Bool) (d : Document) (mem : List ℕ)
     → decodeWith p names lengths d (take (documentWords (limitsOf (d .limits))) mem) ≡ decodeWith p names lengths d mem
 decode-front p names lengths d mem =
     let l = limitsOf (d .limits) in

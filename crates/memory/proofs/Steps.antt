@@ -163,7 +163,7 @@ module _ (d : Document) (mem : List ℕ) (ok : memoryOk d (length mem) ≡ true)
   length-putWords = length-putSlots d mem (putRecord n w s r) ok size
 
   -- the three columns of what is loaded, and all else equal
-  module _ (p : Pool) (names : List Name) (lengths : Bool) (counts : Counts) (current : Bool) where
+  module _ (p : Pool) (names : List (Option Name)) (lengths : Bool) (counts : Counts) (current : Bool) where
     abbrev e : Document
     e = recordWith d counts current
 
@@ -209,7 +209,7 @@ module _ (d : Document) (mem : List ℕ) (ok : memoryOk d (length mem) ≡ true)
 
 -- ---- the steps
 
-module _ (p : Pool) (names : List Name) (lengths : Bool) (d : Document) (mem : List ℕ) (ok : memoryOk d (length mem) ≡ true) (s : ℕ) (h : s < slotsMade d) where
+module _ (p : Pool) (names : List (Option Name)) (lengths : Bool) (d : Document) (mem : List ℕ) (ok : memoryOk d (length mem) ≡ true) (s : ℕ) (h : s < slotsMade d) where
   abbrev bound : s < d .limits .nodes
   bound = omega (arith, made-fits d)
 

@@ -3,6 +3,7 @@
 use mathlib.Core.Path.{_≡_, refl, sym, ap, _∙_}
 use mathlib.Core.Logic.{⊎-elim}
 use mathlib.Core.Bool.{Bool, true, false, cond, false≢true}
+use mathlib.Core.Option.{Option}
 use mathlib.Core.List.{List}
 use Prim.Native.Nat.{ℕ, _+_, _*_, _≤_}
 use native.Mathlib.Omega.{arith}
@@ -64,7 +65,7 @@ module _ (d : Document) (mem words : List ℕ) (ok : memoryOk d (length mem) ≡
         part-put-after mem 0 words (arenaAt l a) (2 * entriesOf (d .limits) a) (omega (arith, arena-behind-slots l a)) (omega arith)
 
     -- the document is that of the new words, whatever the counts are then
-    pub decode-putSlots : (p : Pool) (names : List Name) (lengths : Bool) (counts : Counts) (current : Bool)
+    pub decode-putSlots : (p : Pool) (names : List (Option Name)) (lengths : Bool) (counts : Counts) (current : Bool)
         → decodeWith p names lengths (recordWith d counts current) (putSlots words mem)
         ≡ documentOf p names lengths (recordWith d counts current) words (λ a. arenaPart d a mem)
     decode-putSlots p names lengths counts current =
@@ -107,7 +108,7 @@ module _ (d : Document) (mem words : List ℕ) (ok : memoryOk d (length mem) ≡
     pub arenaParts-putArena : (v : Which) → arenaPart d v (putArena d w words mem) ≡ updateWhich (λ a. arenaPart d a mem) w words v
     arenaParts-putArena = update-is (λ a. arenaPart d a mem) (λ a. arenaPart d a (putArena d w words mem)) w words arenaPart-putArena arenaPart-putArena-other
 
-    pub decode-putArena : (p : Pool) (names : List Name) (lengths : Bool) (counts : Counts) (current : Bool)
+    pub decode-putArena : (p : Pool) (names : List (Option Name)) (lengths : Bool) (counts : Counts) (current : Bool)
         → decodeWith p names lengths (recordWith d counts current) (putArena d w words mem)
         ≡ documentOf p names lengths (recordWith d counts current) (slotsPart d mem) (updateWhich (λ a. arenaPart d a mem) w words)
     decode-putArena p names lengths counts current =

@@ -2,12 +2,12 @@
 -- reads as the limit.
 use mathlib.Core.Bool.{Bool, _&&_, cond}
 use mathlib.Core.Option.{Option, none, some}
-use mathlib.Core.List.{List, [], _∷_, _++_, reverse}
-use Prim.Native.Nat.{ℕ, zero, suc, _+_, min}
+use mathlib.Core.List.{List, reverse}
+use Prim.Native.Nat.{ℕ, _+_, min}
 use lib.ListN.{take}
-use lib.Dec.{eqb, leb, ltb}
+use lib.Dec.{leb, ltb}
 use Rattle.words.specs.Parts.{part}
-use Rattle.words.specs.Lists.{tabulate, sum}
+use Rattle.words.specs.Lists.{tabulate}
 use Rattle.blocks.specs.Arena.{Arena, Block, block, arenaOf}
 use Rattle.slots.specs.Handles.{wordOf}
 use Rattle.slots.specs.Regions.{slotsWords, generationAt, freeAt, nodeAt, orderAt}
@@ -25,7 +25,7 @@ use Rattle.slots.specs.declared.Loaded.{Loaded}
 use Rattle.slots.specs.declared.Loaded.the-variants.{Found, NoNode}
 use Rattle.model.specs.Kinds.{Kind, root, element, attribute, text, comment, namespace, instruction, Which, children, attributes, namespaces}
 use Rattle.texts.specs.Pool.{Pool}
-use Rattle.texts.specs.Ends.{endsReach}
+use Rattle.words.specs.Ends.{endsReach}
 use Rattle.texts.specs.Words.{textShown}
 use Rattle.texts.specs.declared.TextLimits.{TextLimits}
 use Rattle.texts.specs.declared.TextCounts.{TextCounts}
@@ -134,7 +134,7 @@ abbrev pub resolvedIn : Document → List ℕ → NodeId → Loaded
 resolvedIn d mem h = resolved (d .limits .nodes) (slotsPart d mem) (slotsMade d) h
 
 -- the document but for its texts and names, which the layers of the pool and of the table read: of the words of the slots and of each arena
-abbrev pub documentOf : Pool → List Name → Bool → Document → List ℕ → (Which → List ℕ) → Doc
+abbrev pub documentOf : Pool → List (Option Name) → Bool → Document → List ℕ → (Which → List ℕ) → Doc
 documentOf pool names lengths d w arenas =
     let n = d .limits .nodes in
     record {
@@ -153,7 +153,7 @@ documentOf pool names lengths d w arenas =
       lengthsFit = lengths;
     }
 
-abbrev pub decodeWith : Pool → List Name → Bool → Document → List ℕ → Doc
+abbrev pub decodeWith : Pool → List (Option Name) → Bool → Document → List ℕ → Doc
 decodeWith pool names lengths d mem = documentOf pool names lengths d (slotsPart d mem) (λ a. arenaPart d a mem)
 
 -- ---- texts and names
@@ -184,24 +184,16 @@ poolIn d mem =
       free = reverse (part (d .limits .texts) (min (d .counts .freetexts) (d .limits .texts)) (textsPart d mem));
     }
 
--- the names as they are shown: ".. no name for a number outside its table or bytes outside their pool". Where one has none, no later one has.
-abbrev pub shownBelow : (ℕ → Option Name) → ℕ → List Name
-shownBelow f zero = []
-shownBelow f (suc n) = shownBelow f n ++ shownName (f n)
-  where
-    shownName : Option Name → List Name
-    shownName none = []
-    shownName (some x) = x ∷ []
+-- the names as they are shown: ".. no name for a number outside its table or bytes outside their pool"
+abbrev pub namesIn : Document → List ℕ → List (Option Name)
+namesIn d mem = tabulate (λ i. nameShown (nameLimits d) (nameCounts d) i (namesPart d mem)) (min (d .counts .names) (d .limits .names))
 
-abbrev pub namesIn : Document → List ℕ → List Name
-namesIn d mem = shownBelow (λ i. nameShown (nameLimits d) (nameCounts d) i (namesPart d mem)) (min (d .counts .names) (d .limits .names))
-
--- rule 8: "text and name lengths add to the bytes used", the texts' by their ends
+-- rule 8: "text and name lengths add to the bytes used", both by their ends
 abbrev pub textsAdd : Document → List ℕ → Bool
 textsAdd d mem = endsReach 0 (take (d .counts .texts) (textsPart d mem)) (d .counts .textbytes)
 
 abbrev pub namesAdd : Document → List ℕ → Bool
-namesAdd d mem = eqb (sum (take (d .counts .names + d .counts .names) (namesPart d mem))) (d .counts .namebytes)
+namesAdd d mem = endsReach 0 (take (d .counts .names + d .counts .names) (namesPart d mem)) (d .counts .namebytes)
 
 unfoldable pub lengthsAdd : Document → List ℕ → Bool
 lengthsAdd d mem = textsAdd d mem && namesAdd d mem
