@@ -16,7 +16,7 @@ use Rattle.memory.specs.declared.layout.Document.{Document}
 use Rattle.memory.specs.Decode.{decodeWith}
 use Rattle.entries.specs.Nodes.{decodeNodes}
 
-module _ (p : Pool) (names : List Name) (lengths : Bool) (d : Document) (mem : List ℕ) where
+module _ (p : Pool) (names : List (Option Name)) (lengths : Bool) (d : Document) (mem : List ℕ) where
   pub entries-decoded : entriesHold (decodeWith p names lengths d mem) ≡ entriesHold (decodeNodes d mem)
   unfolding entriesHold allLive allWhich
   entries-decoded = refl

@@ -2,39 +2,37 @@
 -- Assumes nothing.
 use mathlib.Core.Path.{_≡_, refl, sym, ap, _∙_}
 use mathlib.Core.Bool.{Bool, true, false, not, _&&_, cond, and-false}
-use mathlib.Core.Option.{Option, some}
 use mathlib.Core.List.{List, [], _∷_, reverse}
-use Prim.Native.Nat.{ℕ, zero, suc, _+_, _-_, _*_, _≤_, _<_, min}
+use Prim.Native.Nat.{ℕ, _+_, _-_, _*_, _≤_, _<_, min}
 use native.Mathlib.Decide.{ℕ-discrete, decLt}
 use native.Mathlib.Omega.{arith}
-use lib.ListN.{length, getD, take, drop, replicate, length-append, List·getD-eq-default}
+use lib.ListN.{length, getD, take, drop, replicate, List·getD-eq-default}
 use lib.Dec.{eqb, ltb}
-use borrow.Author.Tests.{eqb-true, eq-eqb, ne-eqb, ltb-true, le-ltb, le-leb}
+use borrow.Author.Tests.{eq-eqb, ne-eqb, ltb-true, le-ltb, le-leb}
 use Rattle.words.specs.Parts.{part}
-use Rattle.words.specs.Lists.{countOf, all, allBelow, sum}
+use Rattle.words.specs.Lists.{countOf, all, allBelow}
 use Rattle.words.proofs.Parts.{lent, length-part}
 use Rattle.words.proofs.Lists.{length-tabulate, getD-tabulate}
 use Rattle.words.proofs.Tests.{and-left, and-right, eqb-same}
-use Rattle.words.proofs.Lengths.{sum-take-le}
 use Rattle.slots.proofs.Lists.{allBelow-next, allBelow-not, allBelow-same}
-use Rattle.texts.specs.Ends.{startOf, lengthOf}
+use Rattle.words.specs.Ends.{startOf, lengthOf}
 use Rattle.texts.specs.Words as pool
 use Rattle.texts.specs.Words.{textShown, freeOk, poolOk, Markable, marked}
 use Rattle.texts.proofs.Lists.{countOf-reverse, marked-at, getD-count, all-count}
 use Rattle.texts.proofs.Words.{shown-text, text-end, text-length}
-use Rattle.names.specs.Table.{Name, name}
-use Rattle.names.specs.Words.{nameShown, nameThere, partShown, tableOk}
-use Rattle.names.proofs.Words.{there-leb, within-sums}
+use Rattle.names.specs.Words.{tableOk}
+use Rattle.names.proofs.Words.{within-ends}
 use Rattle.model.specs.Kinds.{namesOf, textsOf}
 use Rattle.model.specs.Doc.{Doc, liveSlot, kindIn}
 use Rattle.model.specs.Rules.{held, heldIn, slotsHeld}
 use Rattle.model.specs.RulesTest.{implies, allLive, textsHold}
 use Rattle.memory.specs.declared.layout.Document.{Document}
 use Rattle.memory.specs.Layout.{limitsOf, textsAt, namesAt, memoryOk}
-use Rattle.memory.specs.Decode.{slotsMade, countsWithin, textLimits, textCounts, nameLimits, nameCounts, textsPart, namesPart, poolIn, shownBelow, namesIn, textsAdd, namesAdd, lengthsAdd, decode}
+use Rattle.memory.specs.Decode.{slotsMade, countsWithin, textLimits, textCounts, nameLimits, nameCounts, textsPart, namesPart, poolIn, namesIn, textsAdd, namesAdd, lengthsAdd, decode}
 use Rattle.memory.proofs.Limits.{limits-fit, memory-limits, memory-long, names-next, words-next, words-fit}
 use Rattle.memory.proofs.Counted.{CountsFit, counts-fit}
 use Rattle.memory.proofs.Columns as columns
+use Rattle.memory.proofs.Shown.{names-shown}
 use Rattle.entries.specs.Nodes.{noTexts, decodeNodes}
 use Rattle.entries.specs.Marks.{Counted, Pass, gathered}
 use Rattle.entries.specs.Fields.{slotsInside, namesInside, fieldsHold, markedOne, slotsOnce}
@@ -142,22 +140,12 @@ module _ (D : Doc) (marks m : List ℕ) (t : Bool) (texts names n : ℕ)
 
 -- ---- what the layers say, in the document's words
 
--- names are shown up to the count where each is there
-shown-all : (f : ℕ → Option Name) (n : ℕ) → ((i : ℕ) → i < n → (x : Name) × (f i ≡ some x)) → length (shownBelow f n) ≡ n
-shown-all f zero h = refl
-shown-all f (suc n) h =
-    let o = h n (omega arith) in
-    rw (o .1) (length-append (shownBelow f n) (o .0 ∷ []) ∙ omega (arith, shown-all f n (λ i b. h i (omega arith))))
-
 module _ (d : Document) (mem : List ℕ) (ok : memoryOk d (length mem) ≡ true) (within : countsWithin (limitsOf (d .limits)) (d .counts) ≡ true) where
   fit : CountsFit (limitsOf (d .limits)) (d .counts)
   fit = counts-fit (limitsOf (d .limits)) (d .counts) within
 
   abbrev stack : List ℕ
   stack = part (d .limits .texts) (d .counts .freetexts) (textsPart d mem)
-
-  abbrev nameSum : ℕ
-  nameSum = sum (take (d .counts .names + d .counts .names) (namesPart d mem))
 
   pool-is : poolOk (textLimits d) (textCounts d) (textsPart d mem) ≡ (textsAdd d mem && all (freeOk (d .counts .texts) (textsPart d mem)) stack)
   unfolding poolOk
@@ -169,7 +157,7 @@ module _ (d : Document) (mem : List ℕ) (ok : memoryOk d (length mem) ≡ true)
       )
 
   table-is : tableOk (nameLimits d) (nameCounts d) (namesPart d mem) ≡ namesAdd d mem
-  table-is = within-sums (nameLimits d) (nameCounts d) (namesPart d mem) (fit .names) (fit .name-bytes)
+  table-is = within-ends (nameLimits d) (nameCounts d) (namesPart d mem) (fit .names) (fit .name-bytes)
 
   texts-made : length (poolIn d mem .texts) ≡ d .counts .texts
   texts-made =
@@ -210,22 +198,8 @@ module _ (d : Document) (mem : List ℕ) (ok : memoryOk d (length mem) ≡ true)
             (λ q. omega (arith, shown-length s b)))
         go s (no b) = rw (le-ltb s (d .counts .texts) (omega arith))
 
-  module _ (h : nameSum ≡ d .counts .namebytes) where
-    there : (i : ℕ) → i < d .counts .names → nameThere (nameLimits d) (nameCounts d) i (namesPart d mem) ≡ true
-    there i b =
-        let m : sum (take (i + i + 2) (namesPart d mem)) ≤ nameSum = sum-take-le (namesPart d mem) (i + i + 2) (d .counts .names + d .counts .names) (omega arith) in
-        there-leb (nameLimits d) (nameCounts d) (namesPart d mem) i (omega (arith, fit .names))
-        ∙ le-leb (sum (take (i + i + 2) (namesPart d mem))) (min (d .counts .namebytes) (d .limits .namebytes)) (omega (arith, fit .name-bytes))
-
-    shown : (i : ℕ) → i < d .counts .names → (x : Name) × (nameShown (nameLimits d) (nameCounts d) i (namesPart d mem) ≡ some x)
-    unfolding nameShown
-    shown i b = (name (partShown (nameLimits d) (nameCounts d) i 0 (namesPart d mem)) (partShown (nameLimits d) (nameCounts d) i 1 (namesPart d mem)), rw (there i b))
-
-    names-made : length (namesIn d mem) ≡ d .counts .names
-    names-made =
-        let e : min (d .counts .names) (d .limits .names) ≡ d .counts .names = omega (arith, fit .names) in
-        ap (λ (k : ℕ). length (shownBelow (λ i. nameShown (nameLimits d) (nameCounts d) i (namesPart d mem)) k)) e
-        ∙ shown-all (λ i. nameShown (nameLimits d) (nameCounts d) i (namesPart d mem)) (d .counts .names) shown
+  names-made : length (namesIn d mem) ≡ d .counts .names
+  names-made = names-shown d mem ∙ omega (arith, fit .names)
 
   -- ---- the parts of the test
 
@@ -254,13 +228,12 @@ module _ (d : Document) (mem : List ℕ) (ok : memoryOk d (length mem) ≡ true)
       ∙ all-gathered (λ s. ltb s (d .counts .texts)) (heldIn (decodeNodes d mem)) (slotsMade d)
 
   -- their name numbers
-  names-is : nameSum ≡ d .counts .namebytes
-      → allLive (decode d mem) (λ i. all (λ n. ltb n (length (namesIn d mem))) (namesOf (kindIn (decode d mem) i)))
+  names-is : allLive (decode d mem) (λ i. all (λ n. ltb n (length (namesIn d mem))) (namesOf (kindIn (decode d mem) i)))
       ≡ allBelow (λ i. implies (liveSlot (decodeNodes d mem) i) (namesInside (d .counts .names) (kindIn (decodeNodes d mem) i))) (slotsMade d)
   unfolding allLive namesInside
-  names-is h =
+  names-is =
       ap (allBelow (λ i. implies (liveSlot (decode d mem) i) (all (λ n. ltb n (length (namesIn d mem))) (namesOf (kindIn (decode d mem) i))))) slots-made
-      ∙ ap (λ (k : ℕ). allBelow (λ i. implies (liveSlot (decodeNodes d mem) i) (all (λ n. ltb n k) (namesOf (kindIn (decodeNodes d mem) i)))) (slotsMade d)) (names-made h)
+      ∙ ap (λ (k : ℕ). allBelow (λ i. implies (liveSlot (decodeNodes d mem) i) (all (λ n. ltb n k) (namesOf (kindIn (decodeNodes d mem) i)))) (slotsMade d)) names-made
 
   fields-are : allBelow (fieldsHold (d .counts .texts) (d .counts .names) (decodeNodes d mem)) (slotsMade d)
       ≡ (allBelow (λ i. slotsInside (d .counts .texts) (heldIn (decodeNodes d mem) i)) (slotsMade d)
@@ -345,7 +318,7 @@ module _ (d : Document) (mem : List ℕ) (ok : memoryOk d (length mem) ≡ true)
         ∙ others-left (lengthsAdd d mem) _ _ _ _ _ _ _ (lengths-are true true texts-add names-add) once-is inside-is
         (free-is texts-add
         ∙ and-right (textsAdd d mem) (all (freeOk (d .counts .texts) (textsPart d mem)) stack) pool-holds)
-        (names-is (eqb-true nameSum (d .counts .namebytes) names-add))
+        names-is
 
   -- ---- what counting the free list asks
 

@@ -2,7 +2,7 @@
 -- Assumes nothing.
 use mathlib.Core.Path.{_≡_, sym, ap, _∙_}
 use mathlib.Core.Bool.{Bool, true, false}
-use mathlib.Core.Option.{none}
+use mathlib.Core.Option.{Option, none}
 use mathlib.Core.List.{List}
 use Prim.Native.Nat.{ℕ, _<_}
 use lib.ListN.{length}
@@ -29,7 +29,7 @@ module _ (d : Document) (mem : List ℕ) (ok : Bool) (e : ok ≡ memoryOk d (len
   refused-reads c f = sym (rw (← e, f))
 
   -- what is so whatever the texts and the names are
-  pub accepted-reads : (c : Call) (a : Answered) → ok ≡ true → ((p : Pool) (names : List Name) (lengths : Bool) → a ≡ step c (decodeWith p names lengths d mem) .answer) → a ≡ reads c d mem
+  pub accepted-reads : (c : Call) (a : Answered) → ok ≡ true → ((p : Pool) (names : List (Option Name)) (lengths : Bool) → a ≡ step c (decodeWith p names lengths d mem) .answer) → a ≡ reads c d mem
   unfolding reads
   accepted-reads c a t q = q (poolIn d mem) (namesIn d mem) (lengthsAdd d mem) ∙ sym (rw (← e, t))
 
@@ -38,7 +38,7 @@ module _ (d : Document) (mem : List ℕ) (ok : Bool) (e : ok ≡ memoryOk d (len
   decoded-reads c a t q = q ∙ sym (rw (← e, t))
 
 -- a handle that resolves
-pub record Shown (p : Pool) (names : List Name) (lengths : Bool) (d : Document) (mem : List ℕ) (h : NodeId) (m : Node) : Type 0 where
+pub record Shown (p : Pool) (names : List (Option Name)) (lengths : Bool) (d : Document) (mem : List ℕ) (h : NodeId) (m : Node) : Type 0 where
   pub slot-made : h .index < slotsMade d
   pub resolving : resolves (decodeWith p names lengths d mem) (wordOf h) ≡ true
   pub kind : kindAt (decodeWith p names lengths d mem) (wordOf h) ≡ kindOf (m .«data»)
@@ -47,7 +47,7 @@ pub record Shown (p : Pool) (names : List Name) (lengths : Bool) (d : Document) 
 
 module _ (d : Document) (mem : List ℕ) (h : NodeId) (hi : h .index < 4294967296) (hg : h .generation < 4294967296) where
   module _ (m : Node) (e : resolvedIn d mem h ≡ Found m) where
-    pub shown : (p : Pool) (names : List Name) (lengths : Bool) → Shown p names lengths d mem h m
+    pub shown : (p : Pool) (names : List (Option Name)) (lengths : Bool) → Shown p names lengths d mem h m
     shown p names lengths =
         let D = decodeWith p names lengths d mem in
         let r = resolved-found p names lengths d mem h hi hg m e in
@@ -65,7 +65,7 @@ module _ (d : Document) (mem : List ℕ) (h : NodeId) (hi : h .index < 429496729
         let s = shown (poolIn d mem) (namesIn d mem) (lengthsAdd d mem) in
         q ∙ sym (rw (s .resolving, s .kind))
 
-    pub parent-shown : (a : Answered) → a ≡ node (handleOf (m .parent)) → (p : Pool) (names : List Name) (lengths : Bool)
+    pub parent-shown : (a : Answered) → a ≡ node (handleOf (m .parent)) → (p : Pool) (names : List (Option Name)) (lengths : Bool)
         → a ≡ step (parent-of (wordOf h)) (decodeWith p names lengths d mem) .answer
     parent-shown a q p names lengths =
         let s = shown p names lengths in
@@ -75,5 +75,5 @@ module _ (d : Document) (mem : List ℕ) (h : NodeId) (hi : h .index < 429496729
     pub element-stale : false ≡ showsElement (decode d mem) (wordOf h)
     element-stale = rw (resolved-none (poolIn d mem) (namesIn d mem) (lengthsAdd d mem) d mem h hi hg e)
 
-    pub parent-stale : (p : Pool) (names : List Name) (lengths : Bool) → node none ≡ step (parent-of (wordOf h)) (decodeWith p names lengths d mem) .answer
+    pub parent-stale : (p : Pool) (names : List (Option Name)) (lengths : Bool) → node none ≡ step (parent-of (wordOf h)) (decodeWith p names lengths d mem) .answer
     parent-stale p names lengths = rw (resolved-none p names lengths d mem h hi hg e)

@@ -60,7 +60,7 @@ module _ (d : Document) (mem : List ℕ) (h : NodeId) (hi : h .index < 429496729
 
   pub key-found : (m : Node) → resolvedIn d mem h ≡ Found m → (a : Answered)
       → a ≡ cond (d .current) (key (keyOf (orderAt (d .limits .nodes) (slotsPart d mem) (h .index)))) (refused 15)
-      → (p : Pool) (names : List Name) (lengths : Bool) → a ≡ step (order-key (wordOf h)) (decodeWith p names lengths d mem) .answer
+      → (p : Pool) (names : List (Option Name)) (lengths : Bool) → a ≡ step (order-key (wordOf h)) (decodeWith p names lengths d mem) .answer
   key-found m e a q p names lengths =
       let D = decodeWith p names lengths d mem in
       let n = d .limits .nodes in
@@ -70,5 +70,5 @@ module _ (d : Document) (mem : List ℕ) (h : NodeId) (hi : h .index < 429496729
       ∙ getD-tabulate (orderAt n (slotsPart d mem)) n (h .index) noKey (found-inside m e) in
       q ∙ sym (rw (s .resolving, word))
 
-  pub key-stale : resolvedIn d mem h ≡ NoNode → (p : Pool) (names : List Name) (lengths : Bool) → key none ≡ step (order-key (wordOf h)) (decodeWith p names lengths d mem) .answer
+  pub key-stale : resolvedIn d mem h ≡ NoNode → (p : Pool) (names : List (Option Name)) (lengths : Bool) → key none ≡ step (order-key (wordOf h)) (decodeWith p names lengths d mem) .answer
   key-stale e p names lengths = rw (resolved-none p names lengths d mem h hi hg e)
