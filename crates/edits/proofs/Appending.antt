@@ -46,7 +46,7 @@ room-same B D w s c a g k b r =
       room = ap (λ (x : Arena). hasRoom x (rangeIn B w s)) a ∙ ap (λ (y : Block). hasRoom (D .arenas w) y) b ∙ r .room;
     }
 
-module _ (D : Doc) (sh : Shape D) (narrow : length (D .gens) < 4294967296) (ready : SlotReady D) (k : Kind ℕ (Option ℕ)) (p : Pool) (names : List Name) where
+module _ (D : Doc) (sh : Shape D) (narrow : length (D .gens) < 4294967296) (ready : SlotReady D) (k : Kind ℕ (Option ℕ)) (p : Pool) (names : List (Option Name)) where
   -- ---- the first of the free slots
   module _ (i : ℕ) (l : List ℕ) (e : D .free ≡ i ∷ l) where
     first-made : i < length (D .gens)

@@ -19,7 +19,7 @@ use Rattle.slots.specs.declared.Node.{Node}
 use Rattle.slots.specs.declared.Loaded.the-variants.{Found}
 use Rattle.slots.proofs.Handles.{handleIndex-wordOf}
 use Rattle.texts.specs.Pool.{Pool, textAt, replaced, textsFit}
-use Rattle.texts.specs.Ends.{lengthOf}
+use Rattle.words.specs.Ends.{lengthOf}
 use Rattle.texts.specs.Words.{poolOf, countsFit, Counted, ReplacedTo}
 use Rattle.texts.specs.declared.TextLimits.{TextLimits}
 use Rattle.texts.specs.declared.TextCounts.{TextCounts}

@@ -2,7 +2,7 @@
 -- Assumes nothing.
 use mathlib.Core.Path.{_≡_, refl, sym, ap, _∙_}
 use mathlib.Core.Bool.{Bool, true, false}
-use mathlib.Core.Option.{none, some}
+use mathlib.Core.Option.{Option, none, some}
 use mathlib.Core.List.{List, [], _∷_, _++_, reverse}
 use Prim.Native.Nat.{ℕ, suc, _+_, _-_, _*_, _≤_, _<_, min}
 use native.Mathlib.Omega.{arith}
@@ -91,7 +91,7 @@ module _ (n : ℕ) (w : List ℕ) (long : slotsWords n ≤ length w) (s g : ℕ)
 
 -- ---- the document
 
-module _ (p : Pool) (names : List Name) (lengths : Bool) (d : Document) (mem : List ℕ) (ok : memoryOk d (length mem) ≡ true)
+module _ (p : Pool) (names : List (Option Name)) (lengths : Bool) (d : Document) (mem : List ℕ) (ok : memoryOk d (length mem) ≡ true)
     (counts : countsWithin (limitsOf (d .limits)) (d .counts) ≡ true) (s g : ℕ) (sb : s < d .limits .nodes) (gb : g < 4294967296) (m : Node) (new : Newborn m) where
   abbrev N : ℕ
   N = d .limits .nodes

@@ -2,6 +2,7 @@
 -- Assumes nothing.
 use mathlib.Core.Path.{_≡_, sym, ap, subst, _∙_}
 use mathlib.Core.Bool.{true}
+use mathlib.Core.Option.{Option}
 use mathlib.Core.List.{List, _++_}
 use Prim.Native.Nat.{ℕ, _+_, _-_, _≤_, _<_}
 use native.Mathlib.Omega.{arith}
@@ -32,7 +33,7 @@ module _ (d : Document) (mem : List ℕ) (n : Name) (s : Internable d mem n) whe
   table = names-counted d mem (s .memory) (s .ready .counts) (s .ready .lengths)
 
   fits : nameFits (d .limits .names) (d .limits .namebytes) (tableOf (nameLimits d) (nameCounts d) (namesPart d mem)) n ≡ true
-  fits = ap (λ (t : List Name). nameFits (d .limits .names) (d .limits .namebytes) t n) (sym (names-held d mem table)) ∙ s .room
+  fits = ap (λ (t : List (Option Name)). nameFits (d .limits .names) (d .limits .namebytes) t n) (sym (names-held d mem table)) ∙ s .room
 
   module _ (start : ℕ) (e : start ≡ namesAt (limitsOf (d .limits))) where
     abbrev span : ℕ
@@ -84,9 +85,9 @@ module _ (d : Document) (mem : List ℕ) (n : Name) (s : Internable d mem n) whe
     intern-step em e ee =
         let t = interned (decode d mem .names) n in
         let stepped = names-step d mem (s .memory) (s .ready .counts) (s .ready .lengths) (r .counts) (namesPart d mem′) (k .held) t
-        (k .table ∙ ap (λ (x : List Name). interned x n) (sym (names-held d mem table))) in
+        (k .table ∙ ap (λ (x : List (Option Name)). interned x n) (sym (names-held d mem table))) in
         subst (λ (x : Document). Step d mem x mem′ (setNames (decode d mem) t)) (sym ee)
         (subst (λ (x : List ℕ). Step d mem (withNames d (r .counts)) x (setNames (decode d mem) t)) (sym em) stepped)
 
     pub interned-number : r .number ≡ numberOf (decode d mem .names) n
-    interned-number = k .number ∙ ap (λ (x : List Name). numberOf x n) (sym (names-held d mem table))
+    interned-number = k .number ∙ ap (λ (x : List (Option Name)). numberOf x n) (sym (names-held d mem table))

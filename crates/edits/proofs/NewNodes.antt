@@ -101,7 +101,7 @@ newborn-instruction t c f g =
 
 -- ---- a document with other texts and names bears the same nodes
 
-module _ (D : Doc) (p : Pool) (n : List Name) where
+module _ (D : Doc) (p : Pool) (n : List (Option Name)) where
   born-stores : (k : Kind ℕ (Option ℕ)) → born (setPool (setNames D n) p) k p n ≡ born D k p n
   unfolding born setPool setNames
   born-stores k = go (D .free)
@@ -150,13 +150,13 @@ pub pool-alone : (D : Doc) (p : Pool) → setPool D p ≡ setPool (setNames D (D
 unfolding setPool setNames
 pool-alone D p = refl
 
-pub names-alone : (D : Doc) (n : List Name) → setNames D n ≡ setPool (setNames D n) (D .pool)
+pub names-alone : (D : Doc) (n : List (Option Name)) → setNames D n ≡ setPool (setNames D n) (D .pool)
 unfolding setPool setNames
 names-alone D n = refl
 
 -- ---- append, behind what was stored
 
-module _ (d : Document) (mem : List ℕ) (w : Which) (pw : ℕ) (p : Pool) (n : List Name) (e : Document) (mem₁ : List ℕ)
+module _ (d : Document) (mem : List ℕ) (w : Which) (pw : ℕ) (p : Pool) (n : List (Option Name)) (e : Document) (mem₁ : List ℕ)
     (s : Step d mem e mem₁ (setPool (setNames (decode d mem) n) p)) where
   abbrev D : Doc
   D = decode d mem
@@ -180,7 +180,7 @@ module _ (d : Document) (mem : List ℕ) (w : Which) (pw : ℕ) (p : Pool) (n : 
   stored-append k m q r mem₂ t =
       step-as d mem r mem₂ (appended (setPool (setNames D n) p) w pw (kindOf (m .«data»)) (setPool (setNames D n) p .pool) (setPool (setNames D n) p .names)) (appended D w pw k p n)
       (step-next d mem e mem₁ (setPool (setNames D n) p) s (λ (x : Doc). appended x w pw (kindOf (m .«data»)) (x .pool) (x .names)) r mem₂ t)
-      (ap₂ (λ (x : Pool) (y : List Name). appended (setPool (setNames D n) p) w pw (kindOf (m .«data»)) x y) (pool-stores D p n) (names-stores D p n)
+      (ap₂ (λ (x : Pool) (y : List (Option Name)). appended (setPool (setNames D n) p) w pw (kindOf (m .«data»)) x y) (pool-stores D p n) (names-stores D p n)
       ∙ appended-stores D p n w pw (kindOf (m .«data»))
       ∙ ap (λ (x : Kind ℕ (Option ℕ)). appended D w pw x p n) q)
 
@@ -202,7 +202,7 @@ module _ (d : Document) (mem : List ℕ) (u : Undamaged d mem) (p : ℕ) where
 
 -- ---- the call, once the node is in its list
 
-module _ (d : Document) (mem : List ℕ) (w : Which) (pw : ℕ) (p : Pool) (n : List Name) (e : Document) (mem₁ : List ℕ)
+module _ (d : Document) (mem : List ℕ) (w : Which) (pw : ℕ) (p : Pool) (n : List (Option Name)) (e : Document) (mem₁ : List ℕ)
     (s : Step d mem e mem₁ (setPool (setNames (decode d mem) n) p)) (k : Kind ℕ (Option ℕ)) (m : Node) (km : kindOf (m .«data») ≡ k) (r : Document) (mem₂ : List ℕ)
     (t : Step e mem₁ r mem₂ (appended (decode e mem₁) w pw (kindOf (m .«data»)) (decode e mem₁ .pool) (decode e mem₁ .names))) (c : Call) where
   pub made-performed : step c (decode d mem) ≡ answers (appended (decode d mem) w pw k p n) (made (nextHandle (decode d mem)))

@@ -2,17 +2,17 @@
 -- Assumes nothing.
 use mathlib.Core.Path.{_≡_, refl, sym, ap, subst, _∙_}
 use mathlib.Core.Bool.{true}
+use mathlib.Core.Option.{Option}
 use mathlib.Core.List.{List, reverse}
 use Prim.Native.Nat.{ℕ, _+_, _*_, _≤_, min}
 use native.Mathlib.Omega.{arith}
 use lib.ListN.{length, take}
-use borrow.Author.Tests.{eq-eqb, eqb-true}
 use Rattle.words.specs.Parts.{part, put}
-use Rattle.words.specs.Lists.{sum, tabulate}
+use Rattle.words.specs.Lists.{tabulate}
 use Rattle.words.proofs.Parts.{length-part, length-put, part-put-same, part-put-before, drop-put-after}
 use Rattle.words.proofs.Tests.{and-left, and-right, and-both}
 use Rattle.blocks.specs.Arena.{arenaOf}
-use Rattle.texts.specs.Ends.{endsReach}
+use Rattle.words.specs.Ends.{endsReach}
 use Rattle.texts.specs.Words.{textShown}
 use Rattle.names.specs.Table.{Name}
 use Rattle.names.specs.Words.{tableOf, TableHeld}
@@ -44,7 +44,7 @@ module _ (d : Document) (mem : List ℕ) (ok : memoryOk d (length mem) ≡ true)
         size = length-part mem (namesAt l) (namesWords l) names-within ∙ omega arith;
         names = f .names;
         bytes = f .name-bytes;
-        sums = eqb-true _ _ (and-right (textsAdd d mem) (namesAdd d mem) e);
+        ends = and-right (textsAdd d mem) (namesAdd d mem) e;
       }
 
   -- ---- other words of the names
@@ -100,7 +100,7 @@ module _ (d : Document) (mem : List ℕ) (ok : memoryOk d (length mem) ≡ true)
         and-both (textsAdd e after) (namesAdd e after)
         (ap (λ (x : List ℕ). endsReach 0 (take (d .counts .texts) x) (d .counts .textbytes)) texts-same
         ∙ and-left (textsAdd d mem) (namesAdd d mem) lengths)
-        (eq-eqb _ _ (ap (λ (x : List ℕ). sum (take (t .names + t .names) x)) names-part ∙ c .sums))
+        (ap (λ (x : List ℕ). endsReach 0 (take (t .names + t .names) x) (t .bytes)) names-part ∙ c .ends)
         ∙ sym lengths
 
     used-same : (v : Which) → usedOf (tableCounts (d .counts) t) v ≡ usedOf (d .counts) v
@@ -118,7 +118,7 @@ module _ (d : Document) (mem : List ℕ) (ok : memoryOk d (length mem) ≡ true)
         within : (v : Which) → usedOf (tableCounts (d .counts) t) v ≤ entriesOf (d .limits) v
         within v = omega (arith, used-same v, counts-fit (limitsOf (d .limits)) (d .counts) counts .used v)
 
-    renamed : (n : List Name) → tableOf (nameLimits d) t words ≡ n → decode (withNames d t) (putNames d words mem) ≡ setNames (decode d mem) n
+    renamed : (n : List (Option Name)) → tableOf (nameLimits d) t words ≡ n → decode (withNames d t) (putNames d words mem) ≡ setNames (decode d mem) n
     unfolding setNames
     renamed n q =
         let D = decode d mem in
@@ -139,7 +139,7 @@ module _ (d : Document) (mem : List ℕ) (ok : memoryOk d (length mem) ≡ true)
           lengthsFit = D .lengthsFit;
         })
 
-    pub names-step : (n : List Name) → tableOf (nameLimits d) t words ≡ n → Step d mem (withNames d t) (putNames d words mem) (setNames (decode d mem) n)
+    pub names-step : (n : List (Option Name)) → tableOf (nameLimits d) t words ≡ n → Step d mem (withNames d t) (putNames d words mem) (setNames (decode d mem) n)
     unfolding putNames
     names-step n q =
         let l = limitsOf (d .limits) in

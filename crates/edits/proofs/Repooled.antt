@@ -6,21 +6,20 @@ use mathlib.Core.List.{List}
 use Prim.Native.Nat.{ℕ, _+_, _*_, _≤_, min}
 use native.Mathlib.Omega.{arith}
 use lib.ListN.{length, take}
-use lib.Dec.{eqb}
 use Rattle.words.specs.Parts.{part, put}
-use Rattle.words.specs.Lists.{sum}
+use Rattle.words.specs.Lists.{tabulate}
 use Rattle.words.proofs.Parts.{length-part, length-put, part-put-same, part-put-before, part-put-after, drop-put-after}
 use Rattle.words.proofs.Tests.{and-left, and-right, and-both}
 use Rattle.blocks.specs.Arena.{arenaOf}
 use Rattle.texts.specs.Pool.{Pool}
-use Rattle.texts.specs.Ends.{endsReach}
+use Rattle.words.specs.Ends.{endsReach}
 use Rattle.texts.specs.Words.{Counted, poolOf}
 use Rattle.texts.specs.declared.TextCounts.{TextCounts}
 use Rattle.names.specs.Words.{nameShown}
 use Rattle.model.specs.Kinds.{Which, children, attributes, namespaces}
 use Rattle.memory.specs.declared.layout.Document.{Document}
 use Rattle.memory.specs.Layout.{limitsOf, entriesOf, arenaAt, textsAt, textsWords, namesAt, namesWords, documentWords, memoryOk}
-use Rattle.memory.specs.Decode.{usedOf, countsWithin, slotsPart, arenaPart, textsPart, namesPart, textLimits, textCounts, nameLimits, nameCounts, shownBelow, poolIn, namesIn, textsAdd, namesAdd, lengthsAdd, documentOf, decode}
+use Rattle.memory.specs.Decode.{usedOf, countsWithin, slotsPart, arenaPart, textsPart, namesPart, textLimits, textCounts, nameLimits, nameCounts, poolIn, namesIn, textsAdd, namesAdd, lengthsAdd, documentOf, decode}
 use Rattle.memory.proofs.Limits.{memory-long, arena-behind-slots, arena-inside, names-next, words-next}
 use Rattle.memory.proofs.Counted.{counts-fit, fit-counts}
 use Rattle.memory.proofs.Shown.{pool-held}
@@ -88,14 +87,14 @@ module _ (d : Document) (mem : List ℕ) (ok : memoryOk d (length mem) ≡ true)
     pool-are = pool-held e after (subst (λ (x : List ℕ). Counted (textLimits d) t x) (sym texts-are) c) ∙ ap (poolOf (textLimits d) t) texts-are
 
     names-are : namesIn e after ≡ namesIn d mem
-    names-are = λ i. shownBelow (λ n. nameShown (nameLimits d) (nameCounts d) n (names-same i)) (min (d .counts .names) (d .limits .names))
+    names-are = λ i. tabulate (λ n. nameShown (nameLimits d) (nameCounts d) n (names-same i)) (min (d .counts .names) (d .limits .names))
 
     lengths-are : lengthsAdd e after ≡ lengthsAdd d mem
     unfolding lengthsAdd
     lengths-are =
         and-both (textsAdd e after) (namesAdd e after)
         (ap (λ (x : List ℕ). endsReach 0 (take (t .slots) x) (t .bytes)) texts-are ∙ c .ends)
-        (ap (λ (x : List ℕ). eqb (sum (take (d .counts .names + d .counts .names) x)) (d .counts .namebytes)) names-same
+        (ap (λ (x : List ℕ). endsReach 0 (take (d .counts .names + d .counts .names) x) (d .counts .namebytes)) names-same
         ∙ and-right (textsAdd d mem) (namesAdd d mem) lengths)
         ∙ sym lengths
 

@@ -1,4 +1,5 @@
 -- The words of the texts or of the names replaced, and the change of the document that this is.
+use mathlib.Core.Option.{Option}
 use mathlib.Core.List.{List}
 use Prim.Native.Nat.{ℕ}
 use Rattle.words.specs.Parts.{put}
@@ -74,7 +75,7 @@ tableCounts c t = record {
 abbrev pub withNames : Document → NameCounts → Document
 withNames d t = recordWith d (tableCounts (d .counts) t) (d .current)
 
-unfoldable pub setNames : Doc → List Name → Doc
+unfoldable pub setNames : Doc → List (Option Name) → Doc
 setNames d n = record {
   limits = d .limits;
   gens = d .gens;

@@ -1,44 +1,28 @@
 -- The names of a document that keeps the rules are those of its table's words.
 -- Assumes nothing.
-use mathlib.Core.Path.{_≡_, refl, sym, ap, _∙_}
+use mathlib.Core.Path.{_≡_, sym, ap, _∙_}
 use mathlib.Core.Bool.{Bool, true}
 use mathlib.Core.Option.{Option}
-use mathlib.Core.List.{List, []}
-use Prim.Native.Nat.{ℕ, zero, suc, _+_, _-_, _*_, _≤_, _<_, min}
+use mathlib.Core.List.{List}
+use Prim.Native.Nat.{ℕ, _+_, _-_, _*_, _≤_, _<_}
 use native.Mathlib.Omega.{arith}
 use lib.ListN.{length, take, drop}
-use lib.Seq.{take-suc, take-length}
-use borrow.Author.Tests.{eqb-true}
-use Rattle.words.specs.Lists.{sum}
 use Rattle.words.proofs.Parts.{length-part, lent}
 use Rattle.words.proofs.Tests.{and-right}
-use Rattle.names.specs.Table.{Name, name, nameAt, nameFits}
-use Rattle.names.specs.Words.{tableOf, TableHeld, nameShown}
-use Rattle.names.proofs.Table.{nameAt-some}
-use Rattle.names.proofs.Words.{table-names, shown-name}
+use Rattle.names.specs.Table.{Name, nameFits}
+use Rattle.names.specs.Words.{tableOf, TableHeld}
 use Rattle.model.specs.Calls.{nameFitsIn}
 use Rattle.memory.specs.declared.layout.Document.{Document}
 use Rattle.memory.specs.Layout.{limitsOf, namesAt, namesWords}
-use Rattle.memory.specs.Decode.{nameLimits, nameCounts, namesPart, shownBelow, namesIn, textsAdd, namesAdd, lengthsAdd, decode}
+use Rattle.memory.specs.Decode.{nameLimits, nameCounts, namesPart, namesIn, textsAdd, namesAdd, lengthsAdd, decode}
 use Rattle.memory.proofs.Limits.{limits-fit, words-fit, memory-limits, memory-long, words-next}
+use Rattle.memory.proofs.Shown.{names-held}
 use Rattle.memory.specs.Undamaged.{Undamaged}
 use Rattle.plans.proofs.Counts.{counts-within}
 
--- ---- a list of what is shown
-
-shown-same : (f g : ℕ → Option Name) → ((i : ℕ) → f i ≡ g i) → (n : ℕ) → shownBelow f n ≡ shownBelow g n
-shown-same f g e zero = refl
-shown-same f g e (suc n) = rw (shown-same f g e n, e n)
-
-shown-taken : (t : List Name) (n : ℕ) → n ≤ length t → shownBelow (nameAt t) n ≡ take n t
-shown-taken t zero h = refl
-shown-taken t (suc n) h =
-    rw (shown-taken t n (omega arith), nameAt-some t n (name [] []) (omega arith))
-    (sym (take-suc t n (name [] []) (omega arith)))
-
-lengths-add : (d : Document) (mem : List ℕ) → lengthsAdd d mem ≡ true → sum (take (d .counts .names + d .counts .names) (namesPart d mem)) ≡ d .counts .namebytes
+names-reach : (d : Document) (mem : List ℕ) → lengthsAdd d mem ≡ true → namesAdd d mem ≡ true
 unfolding lengthsAdd
-lengths-add d mem h = eqb-true _ _ (and-right (textsAdd d mem) (namesAdd d mem) h)
+names-reach d mem h = and-right (textsAdd d mem) (namesAdd d mem) h
 
 module _ (d : Document) (mem : List ℕ) (u : Undamaged d mem) where
   pub held : TableHeld (nameLimits d) (nameCounts d) (namesPart d mem)
@@ -49,17 +33,11 @@ module _ (d : Document) (mem : List ℕ) (u : Undamaged d mem) where
         size = length-part mem (namesAt l) (namesWords l) (omega (arith, words-next l, memory-long d (length mem) (u .memory))) ∙ omega arith;
         names = w .names;
         bytes = w .namebytes;
-        sums = lengths-add d mem (u .rules .texts .lengths);
+        ends = names-reach d mem (u .rules .texts .lengths);
       }
 
   pub names-same : namesIn d mem ≡ tableOf (nameLimits d) (nameCounts d) (namesPart d mem)
-  names-same =
-      let t = tableOf (nameLimits d) (nameCounts d) (namesPart d mem) in
-      let k : min (d .counts .names) (d .limits .names) ≡ length t = omega (arith, counts-within d mem u .names, table-names (nameLimits d) (nameCounts d) (namesPart d mem) held) in
-      ap (shownBelow (λ i. nameShown (nameLimits d) (nameCounts d) i (namesPart d mem))) k
-      ∙ shown-same (λ i. nameShown (nameLimits d) (nameCounts d) i (namesPart d mem)) (nameAt t) (λ i. shown-name (nameLimits d) (nameCounts d) (namesPart d mem) held i) (length t)
-      ∙ shown-taken t (length t) (omega arith)
-      ∙ take-length t
+  names-same = names-held d mem held
 
   -- the table, lent
   module _ (start : ℕ) (e : start ≡ namesAt (limitsOf (d .limits))) where
@@ -83,4 +61,4 @@ module _ (d : Document) (mem : List ℕ) (u : Undamaged d mem) where
     name-told n r q =
         q
         ∙ ap (λ (w : List ℕ). nameFits (d .limits .names) (d .limits .namebytes) (tableOf (nameLimits d) (nameCounts d) w) n) names-lent
-        ∙ sym (ap (λ (t : List Name). nameFits (d .limits .names) (d .limits .namebytes) t n) names-same)
+        ∙ sym (ap (λ (t : List (Option Name)). nameFits (d .limits .names) (d .limits .namebytes) t n) names-same)

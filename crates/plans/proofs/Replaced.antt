@@ -23,7 +23,7 @@ use Rattle.slots.specs.declared.TextSlot.{TextSlot}
 use Rattle.slots.specs.declared.Node.{Node}
 use Rattle.slots.specs.declared.Loaded.the-variants.{Found, NoNode}
 use Rattle.texts.specs.Pool.{Pool, slotsFor, textAt}
-use Rattle.texts.specs.Ends.{lengthOf}
+use Rattle.words.specs.Ends.{lengthOf}
 use Rattle.texts.specs.Words.{poolOf, bytesAt, placeShown, countsFit}
 use Rattle.texts.proofs.Places.{shown-nowhere}
 use Rattle.texts.proofs.Words.{pool-slots, shown-place, text-length, text-ends}

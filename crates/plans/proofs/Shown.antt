@@ -8,23 +8,19 @@ use Prim.Native.Nat.{ℕ, _+_, _-_, _≤_, _<_, min}
 use native.Mathlib.Omega.{arith}
 use native.Mathlib.Decide.{decLt}
 use lib.ListN.{take, drop}
-use borrow.Author.Tests.{le-leb}
-use Rattle.words.specs.Lists.{sum}
-use Rattle.words.proofs.Lengths.{sum-take-le}
 use Rattle.slots.specs.declared.Chars.{Chars}
 use Rattle.slots.specs.declared.Chars.the-variants.{Empty, Expanded}
 use Rattle.slots.specs.declared.TextSlot.{TextSlot}
 use Rattle.texts.specs.Words.{textShown}
 use Rattle.names.specs.Table.{name}
 use Rattle.names.specs.Words.{partShown, nameShown, nameThere}
-use Rattle.names.proofs.Words.{there-number, there-leb, part-number}
+use Rattle.names.proofs.Words.{there-number, held-there, part-number}
 use Rattle.model.specs.Doc.{bytesAt, pairAt, orElse}
 use Rattle.memory.specs.declared.layout.Document.{Document}
 use Rattle.memory.specs.Layout.{limitsOf, textsAt}
 use Rattle.memory.specs.Decode.{slotOf, textLimits, textCounts, nameLimits, nameCounts, namesPart, decode}
 use Rattle.memory.specs.Undamaged.{Undamaged}
 use Rattle.memory.proofs.Shown.{text-shown, name-shown}
-use Rattle.plans.proofs.Counts.{counts-within}
 use Rattle.plans.proofs.Named.{held}
 use Rattle.plans.proofs.Replaced.{texts-lent}
 
@@ -56,10 +52,7 @@ module _ (d : Document) (mem : List ℕ) where
       where
         go : Dec (n < min (d .counts .names) (d .limits .names)) → orElse (name [] []) (nameShown (nameLimits d) (nameCounts d) n words) ≡ name (part n 0) (part n 1)
         go (yes b) =
-            let w = counts-within d mem u in
-            let s : sum (take (n + n + 2) words) ≤ min (d .counts .namebytes) (d .limits .namebytes) =
-            omega (arith, sum-take-le words (n + n + 2) (d .counts .names + d .counts .names) (omega arith), held d mem u .sums) in
-            let t : nameThere (nameLimits d) (nameCounts d) n words ≡ true = there-leb (nameLimits d) (nameCounts d) words n b ∙ le-leb _ _ s in
+            let t : nameThere (nameLimits d) (nameCounts d) n words ≡ true = held-there (nameLimits d) (nameCounts d) words (held d mem u) n (omega arith) in
             rw t
         go (no b) =
             let c : min (d .counts .names) (d .limits .names) ≤ n = omega arith in
