@@ -31,7 +31,7 @@ struct Regions {
     text_ends: usize,
     free_texts: usize,
     text_bytes: usize,
-    name_lengths: usize,
+    name_ends: usize,
     name_bytes: usize,
     end: usize,
 }
@@ -49,8 +49,8 @@ impl Regions {
         let ids = [first, first + 2 * entries[0], first + 2 * (entries[0] + entries[1])];
         let text_ends = ids[2] + 2 * entries[2];
         let text_bytes = text_ends + 2 * size(limits.texts);
-        let name_lengths = text_bytes + size(limits.text_bytes);
-        let name_bytes = name_lengths + 2 * size(limits.names);
+        let name_ends = text_bytes + size(limits.text_bytes);
+        let name_bytes = name_ends + 2 * size(limits.names);
         Regions {
             free: nodes,
             records: 2 * nodes,
@@ -60,7 +60,7 @@ impl Regions {
             text_ends,
             free_texts: text_ends + size(limits.texts),
             text_bytes,
-            name_lengths,
+            name_ends,
             name_bytes,
             end: name_bytes + size(limits.name_bytes),
         }
@@ -144,7 +144,7 @@ impl Memory {
     pub(crate) fn parts_in_use(&self) -> Vec<(usize, usize)> {
         let Some(reader) = self.reader() else { return Vec::new() };
         let Regions { free, records, order, ids, capacities, .. } = reader.regions;
-        let Regions { text_ends, free_texts, text_bytes, name_lengths, name_bytes, .. } = reader.regions;
+        let Regions { text_ends, free_texts, text_bytes, name_ends, name_bytes, .. } = reader.regions;
         let count = |number: usize| reader.count(number);
         let made = count(0);
         let mut parts = vec![(0, made), (free, count(1)), (records, RECORD * made), (order, made)];
@@ -152,7 +152,7 @@ impl Memory {
             parts.extend([(ids[arena], count(2 + arena)), (capacities[arena], count(2 + arena))]);
         }
         parts.extend([(text_ends, count(5)), (free_texts, count(6)), (text_bytes, count(7))]);
-        parts.extend([(name_lengths, 2 * count(8)), (name_bytes, count(9))]);
+        parts.extend([(name_ends, 2 * count(8)), (name_bytes, count(9))]);
         parts
     }
 
@@ -200,17 +200,18 @@ impl Reader<'_> {
         self.part(self.regions.text_ends, self.count(5))
     }
 
-    fn name_lengths(&self) -> &[u64] {
-        self.part(self.regions.name_lengths, 2 * self.count(8))
+    /// Where the namespace of each name ends, and its local part, likewise.
+    fn name_ends(&self) -> &[u64] {
+        self.part(self.regions.name_ends, 2 * self.count(8))
     }
 
     fn lengths_add(&self) -> bool {
-        reach(self.text_ends(), self.counts[7]) && add_to(self.name_lengths(), self.counts[9])
+        reach(self.text_ends(), self.counts[7]) && reach(self.name_ends(), self.counts[9])
     }
 
     fn state(&self, current: bool) -> State {
         let made = self.count(0);
-        let names = pieces(self.name_lengths());
+        let names = pieces(&lengths(self.name_ends()));
         State {
             slots: (0..made).map(|slot| self.slot(slot)).collect(),
             free: self.part(self.regions.free, self.count(1)).to_vec(),
@@ -312,14 +313,10 @@ fn reach(ends: &[u64], used: u64) -> bool {
     ends.is_sorted() && ends.last().copied().unwrap_or(0) == used
 }
 
-/// The lengths of texts with these ends; none where an end is below the one before.
+/// The lengths of pieces with these ends; none where an end is below the one before.
 fn lengths(ends: &[u64]) -> Vec<u64> {
     let starts = std::iter::once(0).chain(ends.iter().copied());
     ends.iter().zip(starts).map(|(end, start)| end.saturating_sub(start)).collect()
-}
-
-fn add_to(lengths: &[u64], total: u64) -> bool {
-    lengths.iter().map(|length| u128::from(*length)).sum::<u128>() == u128::from(total)
 }
 
 /// Bytes of these lengths, whatever they are: no rule reads them. Of a length that no memory has, one; the lengths don't add up then.
@@ -371,8 +368,7 @@ fn words(state: &State, limits: &Limits) -> Vec<u64> {
         state.names.iter().flat_map(|(namespace, local)| [namespace.clone(), local.clone()]).collect();
     put(&mut words, regions.text_ends, &ends(&state.texts));
     put_bytes(&mut words, regions.text_bytes, &state.texts);
-    let lengths: Vec<u64> = names.iter().map(|part| part.len() as u64).collect();
-    put(&mut words, regions.name_lengths, &lengths);
+    put(&mut words, regions.name_ends, &ends(&names));
     put_bytes(&mut words, regions.name_bytes, &names);
     words
 }
@@ -390,13 +386,13 @@ fn put_blocks(words: &mut [u64], regions: &Regions, node: &Node) {
     }
 }
 
-fn ends(texts: &[Vec<u8>]) -> Vec<u64> {
+fn ends(pieces: &[Vec<u8>]) -> Vec<u64> {
     let mut end = 0;
-    let mut next = |text: &Vec<u8>| {
-        end += text.len() as u64;
+    let mut next = |piece: &Vec<u8>| {
+        end += piece.len() as u64;
         end
     };
-    texts.iter().map(&mut next).collect()
+    pieces.iter().map(&mut next).collect()
 }
 
 /// One byte a word.
