@@ -8,17 +8,16 @@ use Prim.Native.Nat.{ℕ, _+_, _-_, _≤_, _<_, min}
 use native.Mathlib.Omega.{arith}
 use native.Mathlib.Nat.{min-le-right}
 use lib.ListN.{length}
-use lib.Dec.{eqb, ltb, leb}
-use borrow.Author.Tests.{ne-eqb, le-ltb, lt-leb}
-use Rattle.words.specs.Pieces.{inside}
-use Rattle.words.proofs.Lengths.{piece-number}
+use lib.Dec.{eqb, leb}
+use borrow.Author.Tests.{ne-eqb, lt-leb}
 use Rattle.blocks.specs.Arena.{Block, block, listOf}
 use Rattle.slots.specs.declared.Chars.{Chars}
 use Rattle.slots.specs.declared.Chars.the-variants.{Empty, Expanded}
 use Rattle.slots.specs.Records.{charsOf}
 use Rattle.texts.proofs.Places.{shown-empty}
-use Rattle.names.specs.Table.{Name, name, nameAt}
-use Rattle.names.specs.Words.{shownNames, nameThere, nameShown, partShown}
+use Rattle.names.specs.Table.{Name, name}
+use Rattle.names.specs.Words.{nameThere, nameShown}
+use Rattle.names.proofs.Words.{there-number, part-number}
 use Rattle.model.specs.Kinds.{Which, children, attributes, namespaces}
 use Rattle.model.specs.Calls.{Answered, nameIs, refused, name-of}
 use Rattle.memory.specs.declared.layout.Document.{Document}
@@ -28,7 +27,6 @@ use Rattle.memory.proofs.Limits.{LimitsFit, limits-fit, entries-fit, memory-lim
 use Rattle.memory.proofs.Shown.{name-shown}
 use Rattle.reading.specs.Answers.{textIn, namePart, entriesShown, textBytes, nameBytes}
 use Rattle.reading.specs.Contract.{reads}
-use Rattle.names.specs.Words as names
 use Rattle.exports.specs.Contract.{slotTold}
 
 -- the slot that a text's word tells
@@ -72,7 +70,7 @@ module _ (d : Document) (mem : List ℕ) where
   text-told w t e r q = q ∙ ap (λ (x : Option ℕ). textBytes d mem x) (ap slotOf e ∙ slot-of w)
 
   pub no-part : (n k : ℕ) → 4294967296 ≤ n → [] ≡ nameBytes d mem n k
-  unfolding nameBytes partShown
+  unfolding nameBytes
   no-part n k h = go (memoryOk d (length mem)) refl
     where
       go : (t : Bool) → memoryOk d (length mem) ≡ t → [] ≡ cond t (namePart d mem n k) []
@@ -80,7 +78,7 @@ module _ (d : Document) (mem : List ℕ) where
       go true q =
           let f = fits q .names in
           let m : min (d .counts .names) (d .limits .names) ≤ d .limits .names = min-le-right (d .counts .names) (d .limits .names) in
-          sym (piece-number (shownNames (nameLimits d) (nameCounts d) + shownNames (nameLimits d) (nameCounts d)) (min (d .counts .namebytes) (d .limits .namebytes)) (n + n + k) (namesPart d mem) (names.bytesAt (nameLimits d)) (omega arith))
+          sym (part-number (nameLimits d) (nameCounts d) (namesPart d mem) n k (omega arith))
 
   -- ---- names
 
@@ -96,7 +94,6 @@ module _ (d : Document) (mem : List ℕ) where
   named-reads n = ap (λ (x : Option Name). cond (memoryOk d (length mem)) (nameIs x) (refused 4)) (name-shown d mem n)
 
   no-name : (n : ℕ) → 4294967295 ≤ n → reads (name-of n) d mem ≡ cond (memoryOk d (length mem)) (nameIs none) (refused 4)
-  unfolding nameThere inside
   no-name n h = named-reads n ∙ go (memoryOk d (length mem)) refl
     where
       go : (t : Bool) → memoryOk d (length mem) ≡ t → named t (nameThere (nameLimits d) (nameCounts d) n (namesPart d mem)) n ≡ cond t (nameIs none) (refused 4)
@@ -104,7 +101,7 @@ module _ (d : Document) (mem : List ℕ) where
       go true q =
           let f = fits q .names in
           let m : min (d .counts .names) (d .limits .names) ≤ d .limits .names = min-le-right (d .counts .names) (d .limits .names) in
-          rw (le-ltb (n + n + 1) (shownNames (nameLimits d) (nameCounts d) + shownNames (nameLimits d) (nameCounts d)) (omega arith))
+          rw (there-number (nameLimits d) (nameCounts d) (namesPart d mem) n (omega arith))
 
   pub same-name : (a : Answered) (m n : ℕ) → 4294967295 ≤ m → 4294967295 ≤ n → a ≡ reads (name-of m) d mem → a ≡ reads (name-of n) d mem
   same-name a m n h k e = e ∙ no-name m h ∙ sym (no-name n k)

@@ -27,7 +27,7 @@ use Rattle.model.specs.Doc.{limitsOk, fresh}
 use Rattle.memory.specs.declared.layout.Document.{Document}
 use Rattle.memory.specs.declared.layout.Limits as given
 use Rattle.memory.specs.Layout.{limitsOf, arenaWords, arenaAt, documentWords}
-use Rattle.memory.specs.Decode.{kindLoaded, parentLoaded, rangeLoaded, loadedAt, countsWithin, slotsPart, arenaPart, slotsMade, textLimits, textCounts, textsPart, nameLimits, nameCounts, namesPart, shownBelow, lengthsAdd, decode}
+use Rattle.memory.specs.Decode.{kindLoaded, parentLoaded, rangeLoaded, loadedAt, countsWithin, slotsPart, arenaPart, slotsMade, textLimits, textCounts, textsPart, nameLimits, nameCounts, namesPart, lengthsAdd, decode}
 use Rattle.memory.proofs.Limits.{limits-fit, arena-inside, names-next, words-next}
 use Rattle.reading.proofs.Lists.{part-take}
 use Rattle.tree.specs.Answers.{freshRecord}
@@ -147,7 +147,7 @@ module _ (l : given.Limits) (ok : limitsOk (limitsOf l) ≡ true) (mem : List �
       texts = ap (tabulate (λ s. textShown (textLimits d) (textCounts d) s (textsPart d mem))) (no-count (l .texts)) i;
       free = (ap (λ (k : ℕ). reverse (part (l .texts) k (textsPart d mem))) (no-count (l .texts)) ∙ ap reverse (part-none (textsPart d mem) (l .texts))) i;
     };
-    names = ap (shownBelow (λ s. nameShown (nameLimits d) (nameCounts d) s (namesPart d mem))) (no-count (l .names)) i;
+    names = ap (tabulate (λ s. nameShown (nameLimits d) (nameCounts d) s (namesPart d mem))) (no-count (l .names)) i;
     countsFit = counts-fit i;
     lengthsFit = lengths-add i;
   }
