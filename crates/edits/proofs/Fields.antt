@@ -7,6 +7,7 @@ use mathlib.Core.List.{List, [], _∷_, _++_}
 use Prim.Native.Nat.{ℕ, zero, suc, _+_, _-_, _<_}
 use native.Mathlib.Omega.{arith}
 use lib.ListN.{length, getD, set, take, drop}
+use Rattle.words.specs.Ends.{lengthOf}
 use Rattle.blocks.specs.Arena.{Block, block}
 use Rattle.slots.specs.Fields.{CharsFit, DataFits, ChildrenFit, NodeFits}
 use Rattle.slots.specs.Handles.{handleIndex, wordOf}
@@ -19,7 +20,6 @@ use Rattle.slots.specs.declared.Node.{Node}
 use Rattle.slots.specs.declared.Loaded.the-variants.{Found}
 use Rattle.slots.proofs.Handles.{handleIndex-wordOf}
 use Rattle.texts.specs.Pool.{Pool, textAt, replaced, textsFit}
-use Rattle.words.specs.Ends.{lengthOf}
 use Rattle.texts.specs.Words.{poolOf, countsFit, Counted, ReplacedTo}
 use Rattle.texts.specs.declared.TextLimits.{TextLimits}
 use Rattle.texts.specs.declared.TextCounts.{TextCounts}

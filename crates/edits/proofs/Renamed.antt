@@ -9,10 +9,10 @@ use native.Mathlib.Omega.{arith}
 use lib.ListN.{length, take}
 use Rattle.words.specs.Parts.{part, put}
 use Rattle.words.specs.Lists.{tabulate}
+use Rattle.words.specs.Ends.{endsReach}
 use Rattle.words.proofs.Parts.{length-part, length-put, part-put-same, part-put-before, drop-put-after}
 use Rattle.words.proofs.Tests.{and-left, and-right, and-both}
 use Rattle.blocks.specs.Arena.{arenaOf}
-use Rattle.words.specs.Ends.{endsReach}
 use Rattle.texts.specs.Words.{textShown}
 use Rattle.names.specs.Table.{Name}
 use Rattle.names.specs.Words.{tableOf, TableHeld}

@@ -8,11 +8,11 @@ use native.Mathlib.Omega.{arith}
 use lib.ListN.{length, take}
 use Rattle.words.specs.Parts.{part, put}
 use Rattle.words.specs.Lists.{tabulate}
+use Rattle.words.specs.Ends.{endsReach}
 use Rattle.words.proofs.Parts.{length-part, length-put, part-put-same, part-put-before, part-put-after, drop-put-after}
 use Rattle.words.proofs.Tests.{and-left, and-right, and-both}
 use Rattle.blocks.specs.Arena.{arenaOf}
 use Rattle.texts.specs.Pool.{Pool}
-use Rattle.words.specs.Ends.{endsReach}
 use Rattle.texts.specs.Words.{Counted, poolOf}
 use Rattle.texts.specs.declared.TextCounts.{TextCounts}
 use Rattle.names.specs.Words.{nameShown}

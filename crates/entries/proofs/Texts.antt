@@ -2,7 +2,7 @@
 -- Assumes nothing.
 use mathlib.Core.Path.{_≡_, refl, sym, ap, _∙_}
 use mathlib.Core.Bool.{Bool, true, false, not, _&&_, cond, and-false}
-use mathlib.Core.List.{List, [], _∷_, reverse}
+use mathlib.Core.List.{List, [], reverse}
 use Prim.Native.Nat.{ℕ, _+_, _-_, _*_, _≤_, _<_, min}
 use native.Mathlib.Decide.{ℕ-discrete, decLt}
 use native.Mathlib.Omega.{arith}
@@ -11,11 +11,11 @@ use lib.Dec.{eqb, ltb}
 use borrow.Author.Tests.{eq-eqb, ne-eqb, ltb-true, le-ltb, le-leb}
 use Rattle.words.specs.Parts.{part}
 use Rattle.words.specs.Lists.{countOf, all, allBelow}
+use Rattle.words.specs.Ends.{startOf, lengthOf}
 use Rattle.words.proofs.Parts.{lent, length-part}
 use Rattle.words.proofs.Lists.{length-tabulate, getD-tabulate}
 use Rattle.words.proofs.Tests.{and-left, and-right, eqb-same}
 use Rattle.slots.proofs.Lists.{allBelow-next, allBelow-not, allBelow-same}
-use Rattle.words.specs.Ends.{startOf, lengthOf}
 use Rattle.texts.specs.Words as pool
 use Rattle.texts.specs.Words.{textShown, freeOk, poolOk, Markable, marked}
 use Rattle.texts.proofs.Lists.{countOf-reverse, marked-at, getD-count, all-count}

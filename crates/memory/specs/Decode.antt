@@ -8,6 +8,7 @@ use lib.ListN.{take}
 use lib.Dec.{leb, ltb}
 use Rattle.words.specs.Parts.{part}
 use Rattle.words.specs.Lists.{tabulate}
+use Rattle.words.specs.Ends.{endsReach}
 use Rattle.blocks.specs.Arena.{Arena, Block, block, arenaOf}
 use Rattle.slots.specs.Handles.{wordOf}
 use Rattle.slots.specs.Regions.{slotsWords, generationAt, freeAt, nodeAt, orderAt}
@@ -25,7 +26,6 @@ use Rattle.slots.specs.declared.Loaded.{Loaded}
 use Rattle.slots.specs.declared.Loaded.the-variants.{Found, NoNode}
 use Rattle.model.specs.Kinds.{Kind, root, element, attribute, text, comment, namespace, instruction, Which, children, attributes, namespaces}
 use Rattle.texts.specs.Pool.{Pool}
-use Rattle.words.specs.Ends.{endsReach}
 use Rattle.texts.specs.Words.{textShown}
 use Rattle.texts.specs.declared.TextLimits.{TextLimits}
 use Rattle.texts.specs.declared.TextCounts.{TextCounts}

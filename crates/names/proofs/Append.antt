@@ -111,7 +111,7 @@ module _ (limits : NameLimits) (counts : NameCounts) (words : List ℕ) (n : Nam
       ∙ both-lengths (counts .bytes) (length (n .namespace)) (length (n .local)) (take (counts .names + counts .names) words) (h .ends)
 
   lengths-used : sum lengths ≡ counts .bytes
-  lengths-used = lengths-add (bytesAt limits) (counts .names + counts .names) (counts .bytes) words (omega (arith, h .size)) (h .ends)
+  lengths-used = lengths-add (counts .names + counts .names) (counts .bytes) words (omega (arith, h .size)) (h .ends)
 
   old : pieces (bytesAt limits) lengths (appended limits counts words n) ≡ pieces (bytesAt limits) lengths words
   unfolding appended
@@ -134,7 +134,7 @@ module _ (limits : NameLimits) (counts : NameCounts) (words : List ℕ) (n : Nam
       ≡ pairs (pieces (bytesAt limits) lengths words) ++ (n ∷ [])
   pairs-after =
       let w : List ℕ = appended limits counts words n in
-      let e : length (pieces (bytesAt limits) lengths words) ≡ counts .names + counts .names = count-taken (bytesAt limits) (counts .names + counts .names) (counts .bytes) words (omega (arith, h .size)) (h .ends) in
+      let e : length (pieces (bytesAt limits) lengths words) ≡ counts .names + counts .names = count-taken (counts .names + counts .names) (counts .bytes) words (omega (arith, h .size)) (h .ends) (bytesAt limits) in
       ap (λ (l : List ℕ). pairs (pieces (bytesAt limits) l w)) lengths-after
       ∙ ap pairs
       (pieces-append (bytesAt limits) lengths (length (n .namespace) ∷ length (n .local) ∷ []) w

@@ -2,8 +2,8 @@
 -- Assumes nothing.
 use mathlib.Core.Path.{_≡_, sym, ap, _∙_}
 use mathlib.Core.Bool.{Bool, true, false, _&&_, cond}
-use mathlib.Core.Option.{Option, none, some}
-use mathlib.Core.List.{List, [], _∷_}
+use mathlib.Core.Option.{Option, none}
+use mathlib.Core.List.{List, []}
 use Prim.Native.Nat.{ℕ, suc, _+_, _-_, _≤_, _<_}
 use native.Mathlib.Numerals.{add-one}
 use native.Mathlib.Omega.{arith}
@@ -50,9 +50,9 @@ module _ (base n used : ℕ) (words : List ℕ) (fits : n + n ≤ length words) 
 
     pub reached-fits : (at ≤ base + getD words (k + k) 0) × (getD words (k + k) 0 ≤ getD words (k + k + 1) 0) × (getD words (k + k + 1) 0 ≤ used)
     reached-fits = (
-      omega (arith, r .begins, piece-rises base (n + n) used words fits h (k + k) (omega arith)),
-      omega (arith, next-start, piece-rises base (n + n) used words fits h (k + k + 1) (omega arith)),
-      piece-within base (n + n) used words fits h (k + k + 1) (omega arith),
+      omega (arith, r .begins, piece-rises (n + n) used words fits h (k + k) (omega arith)),
+      omega (arith, next-start, piece-rises (n + n) used words fits h (k + k + 1) (omega arith)),
+      piece-within (n + n) used words fits h (k + k + 1) (omega arith),
     )
 
     pub reached-next : Reached base n words (k + 1) (base + getD words (k + k + 1) 0)

@@ -17,7 +17,7 @@ use Rattle.words.specs.Ends.{startOf, lengthOf, lengthsOf, endsReach, pieceTher
 use Rattle.words.proofs.Tests.{and-left, and-right, and-both}
 use Rattle.words.proofs.Reach.{count-taken, bytes-taken, piece-taken}
 use Rattle.words.proofs.Places as place
-use Rattle.names.specs.Table.{Name, name, nameBytes, entryBytes, nameAt}
+use Rattle.names.specs.Table.{Name, name, entryBytes, nameAt}
 use Rattle.names.specs.Words.{pairs, bytesAt, tableOf, TableHeld, tableOk, nameThere, partShown, nameShown}
 use Rattle.names.specs.declared.NameLimits.{NameLimits}
 use Rattle.names.specs.declared.NameCounts.{NameCounts}
@@ -120,24 +120,24 @@ module _ (base n used : ℕ) (words : List ℕ) (fits : n + n ≤ length words) 
   pub by-names : length (namesBy base n words) ≡ n
   by-names =
       length-map (pairs (pieces base (lengthsOf (take (n + n) words)) words)) some
-      ∙ length-pairs n (pieces base (lengthsOf (take (n + n) words)) words) (count-taken base (n + n) used words fits h)
+      ∙ length-pairs n (pieces base (lengthsOf (take (n + n) words)) words) (count-taken (n + n) used words fits h base)
 
   pub by-bytes : base + used ≤ length words → length (joined entryBytes (namesBy base n words)) ≡ used
   by-bytes g =
-      ap length (joined-pairs n (pieces base (lengthsOf (take (n + n) words)) words) (count-taken base (n + n) used words fits h))
-      ∙ bytes-taken base (n + n) used words fits h g
+      ap length (joined-pairs n (pieces base (lengthsOf (take (n + n) words)) words) (count-taken (n + n) used words fits h base))
+      ∙ bytes-taken (n + n) used words fits h base g
 
   module _ (i : ℕ) (m : i < n) where
     pub by-pieces : nameAt (namesBy base n words) i
         ≡ some (name (getD (pieces base (lengthsOf (take (n + n) words)) words) (i + i) []) (getD (pieces base (lengthsOf (take (n + n) words)) words) (i + i + 1) []))
-    by-pieces = nameAt-pairs i (pieces base (lengthsOf (take (n + n) words)) words) (omega (arith, count-taken base (n + n) used words fits h))
+    by-pieces = nameAt-pairs i (pieces base (lengthsOf (take (n + n) words)) words) (omega (arith, count-taken (n + n) used words fits h base))
 
     -- the name of a number is where the ends say
     pub by-ends : nameAt (namesBy base n words) i
         ≡ some (name (part (base + startOf words (i + i)) (lengthOf words (i + i)) words) (part (base + startOf words (i + i + 1)) (lengthOf words (i + i + 1)) words))
     by-ends =
         by-pieces
-        ∙ rw (piece-taken base (n + n) used words fits h (i + i) (omega arith), piece-taken base (n + n) used words fits h (i + i + 1) (omega arith))
+        ∙ rw (piece-taken (n + n) used words fits h (i + i) (omega arith) base, piece-taken (n + n) used words fits h (i + i + 1) (omega arith) base)
 
 -- ---- the counts are those of the table
 
@@ -169,14 +169,14 @@ module _ (limits : NameLimits) (counts : NameCounts) (words : List ℕ) (h : Tab
           let n : ℕ = counts .names + counts .names in
           rw (names-all, bytes-all)
           (and-both (pieceThere n (counts .bytes) (i + i) words) (pieceThere n (counts .bytes) (i + i + 1) words)
-          (place.reach-there (bytesAt limits) n (counts .bytes) words fits (h .ends) (i + i) (omega arith))
-          (place.reach-there (bytesAt limits) n (counts .bytes) words fits (h .ends) (i + i + 1) (omega arith)))
+          (place.reach-there n (counts .bytes) words fits (h .ends) (i + i) (omega arith))
+          (place.reach-there n (counts .bytes) words fits (h .ends) (i + i + 1) (omega arith)))
 
       shown : (k : ℕ) → k ≤ 1 → partShown limits counts i k words ≡ getD (pieces (bytesAt limits) (lengthsOf (take (counts .names + counts .names) words)) words) (i + i + k) []
       unfolding partShown
       shown k f =
           rw (names-all, bytes-all)
-          (place.reach-shown (bytesAt limits) (counts .names + counts .names) (counts .bytes) words fits (h .ends) (i + i + k) (omega arith))
+          (place.reach-shown (counts .names + counts .names) (counts .bytes) words fits (h .ends) (i + i + k) (omega arith) (bytesAt limits))
 
       there-name : nameShown limits counts i words ≡ nameAt (namesBy (bytesAt limits) (counts .names) words) i
       there-name =

@@ -11,6 +11,7 @@ use lib.ListN.{length, take, drop, List·getD-eq-default}
 use lib.Dec.{eqb}
 use borrow.Author.Tests.{eqb-true}
 use Rattle.words.specs.declared.ends.Place.{Place}
+use Rattle.words.specs.Ends.{lengthOf}
 use Rattle.words.proofs.Parts.{lent}
 use Rattle.words.proofs.Tests.{and-left}
 use Rattle.slots.specs.Handles.{wordOf, handleIndex}
@@ -23,7 +24,6 @@ use Rattle.slots.specs.declared.TextSlot.{TextSlot}
 use Rattle.slots.specs.declared.Node.{Node}
 use Rattle.slots.specs.declared.Loaded.the-variants.{Found, NoNode}
 use Rattle.texts.specs.Pool.{Pool, slotsFor, textAt}
-use Rattle.words.specs.Ends.{lengthOf}
 use Rattle.texts.specs.Words.{poolOf, bytesAt, placeShown, countsFit}
 use Rattle.texts.proofs.Places.{shown-nowhere}
 use Rattle.texts.proofs.Words.{pool-slots, shown-place, text-length, text-ends}

@@ -11,11 +11,11 @@ use lib.Dec.{eqb}
 use Rattle.words.specs.Parts.{part, put}
 use Rattle.words.specs.Lists.{tabulate}
 use Rattle.words.specs.Pieces.{pieces}
+use Rattle.words.specs.Ends.{startOf, lengthOf, lengthsOf}
 use Rattle.words.proofs.Parts.{part-none, length-part}
 use Rattle.words.proofs.Lists.{length-tabulate}
 use Rattle.words.proofs.Joined.{length-joined-snoc}
 use Rattle.texts.specs.Pool.{bytesOf}
-use Rattle.words.specs.Ends.{startOf, lengthOf, lengthsOf}
 use Rattle.texts.specs.Words.{bytesAt, poolOf, Counted, keptText, laid}
 use Rattle.texts.specs.declared.TextLimits.{TextLimits}
 use Rattle.texts.specs.declared.TextCounts.{TextCounts}

@@ -14,19 +14,19 @@ use borrow.Author.Tests.{leb-true}
 use Rattle.words.specs.Parts.{part, put}
 use Rattle.words.specs.Lists.{countOf}
 use Rattle.words.specs.Pieces.{pieces}
+use Rattle.words.specs.Ends.{startOf, lengthOf, lengthsOf, endsReach}
 use Rattle.words.proofs.Tests.{and-left, and-right}
 use Rattle.words.proofs.Parts.{part-none, part-snoc, length-put, take-put-before, part-put-same, part-put-before}
 use Rattle.words.proofs.Lengths.{pieces-same, pieces-append}
+use Rattle.words.proofs.Reach.{lengths-snoc, reach-snoc}
 use Rattle.texts.specs.Pool.{Pool, replaced}
 use Rattle.texts.specs.Rule.{FreeTexts}
-use Rattle.words.specs.Ends.{startOf, lengthOf, lengthsOf, endsReach}
 use Rattle.texts.specs.Words.{bytesAt, poolOf, Counted, PoolHeld, countsFit, rewritten, StoredTo, ReplacedTo}
 use Rattle.texts.specs.declared.TextLimits.{TextLimits}
 use Rattle.texts.specs.declared.TextCounts.{TextCounts}
 use Rattle.texts.specs.declared.edits.TextField.the-variants.{Nothing, Slot}
 use Rattle.texts.proofs.Lists.{reverse-snoc}
 use Rattle.texts.proofs.Pool.{first-there, stored-empty, stored-new, stored-reused, storedSlot-new, storedSlot-reused}
-use Rattle.words.proofs.Reach.{lengths-snoc, reach-snoc}
 use Rattle.texts.proofs.Words.{lengths-add, pool-slots, text-ends, text-length}
 use Rattle.texts.proofs.Written.{part-set-before, size-written, stack-written, texts-written, reach-written, written-in-place}
 

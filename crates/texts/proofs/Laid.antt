@@ -10,12 +10,12 @@ use lib.Seq.{take-set-lt, drop-set-lt, set-append-left, length-take-le, take-app
 use borrow.Author.Tests.{eq-eqb}
 use Rattle.words.specs.Parts.{part, put}
 use Rattle.words.specs.Pieces.{pieces}
+use Rattle.words.specs.Ends.{lengthsFrom, lengthsOf, endsFrom, endsOf, endsReach}
 use Rattle.words.proofs.Parts.{take-part, drop-part, length-put, take-put-before, part-put-same, part-put-before, part-put-after, getD-put-before, getD-put-after, put-nil, put-front, put-put, set-put-after}
 use Rattle.words.proofs.Joined.{joined-append}
-use Rattle.texts.specs.Pool.{bytesOf}
-use Rattle.words.specs.Ends.{lengthsFrom, lengthsOf, endsFrom, endsOf, endsReach}
-use Rattle.texts.specs.Words.{laid}
 use Rattle.words.proofs.Reach.{reach-cons}
+use Rattle.texts.specs.Pool.{bytesOf}
+use Rattle.texts.specs.Words.{laid}
 
 -- a store before what was put, and a second put right behind the first
 set-before-put : {A : Type 0} (l : List A) (p : ℕ) (vs : List A) (i : ℕ) (v : A) → i < p → p ≤ length l → set (put p vs l) i v ≡ put p vs (set l i v)

@@ -15,12 +15,12 @@ use borrow.Author.Tests.{eq-eqb, ne-eqb}
 use Rattle.words.specs.Parts.{part}
 use Rattle.words.specs.Lists.{sum, countOf, tabulate}
 use Rattle.words.specs.Pieces.{pieces}
+use Rattle.words.specs.Ends.{lengthsOf, endsReach}
 use Rattle.words.proofs.Parts.{part-snoc, length-part}
 use Rattle.words.proofs.Lists.{length-tabulate, getD-tabulate}
 use Rattle.words.proofs.Lengths.{pieces-same}
 use Rattle.texts.specs.Pool.{Pool, bytesOf, released, pushed, emptied, reclaimed}
 use Rattle.texts.specs.Rule.{FreeTexts}
-use Rattle.words.specs.Ends.{lengthsOf, endsReach}
 use Rattle.texts.specs.Words.{bytesAt, poolOf, Counted, PushedTo, Markable, marked, keptText, laid, Reclaimable, ReclaimedTo}
 use Rattle.texts.specs.declared.TextLimits.{TextLimits}
 use Rattle.texts.specs.declared.TextCounts.{TextCounts}

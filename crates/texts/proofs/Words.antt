@@ -12,13 +12,13 @@ use lib.Dec.{eqb, ltb, leb}
 use borrow.Author.Tests.{le-leb, lt-leb, leb-true, lt-ltb, ltb-true, eqb-true, eq-eqb}
 use Rattle.words.specs.Parts.{part}
 use Rattle.words.specs.Lists.{sum, all, countOf}
+use Rattle.words.specs.Ends.{startOf, lengthOf, lengthsOf, endsReach}
 use Rattle.words.proofs.Tests.{and-left, and-right, and-both, leb-same}
 use Rattle.words.proofs.Parts.{part-none, length-part}
 use Rattle.words.proofs.Reach as reach
 use Rattle.words.proofs.Places.{reach-place}
 use Rattle.texts.specs.Pool.{bytesOf, textAt, textsFit}
 use Rattle.texts.specs.Rule.{FreeTexts}
-use Rattle.words.specs.Ends.{startOf, lengthOf, lengthsOf, endsReach}
 use Rattle.texts.specs.Words.{bytesAt, poolOf, Counted, PoolHeld, freeOk, poolOk, placeShown, textShown, countsFit}
 use Rattle.texts.specs.declared.TextLimits.{TextLimits}
 use Rattle.texts.specs.declared.TextCounts.{TextCounts}
@@ -51,14 +51,14 @@ module _ (limits : TextLimits) (counts : TextCounts) (words : List ℕ) (h : Cou
   fits = omega (arith, h .size)
 
   pub lengths-taken : length (lengthsOf (take (counts .slots) words)) ≡ counts .slots
-  lengths-taken = reach.lengths-taken (bytesAt limits) (counts .slots) (counts .bytes) words fits (h .ends)
+  lengths-taken = reach.lengths-taken (counts .slots) (counts .bytes) words fits (h .ends)
 
   pub lengths-add : sum (lengthsOf (take (counts .slots) words)) ≡ counts .bytes
-  lengths-add = reach.lengths-add (bytesAt limits) (counts .slots) (counts .bytes) words fits (h .ends)
+  lengths-add = reach.lengths-add (counts .slots) (counts .bytes) words fits (h .ends)
 
   pub pool-slots : length (poolOf limits counts words .texts) ≡ counts .slots
   unfolding poolOf
-  pool-slots = reach.count-taken (bytesAt limits) (counts .slots) (counts .bytes) words fits (h .ends)
+  pool-slots = reach.count-taken (counts .slots) (counts .bytes) words fits (h .ends) (bytesAt limits)
 
   pub pool-free : length (poolOf limits counts words .free) ≡ counts .free
   unfolding poolOf
@@ -66,7 +66,7 @@ module _ (limits : TextLimits) (counts : TextCounts) (words : List ℕ) (h : Cou
 
   pub pool-bytes : length (bytesOf (poolOf limits counts words .texts)) ≡ counts .bytes
   unfolding poolOf
-  pool-bytes = reach.bytes-taken (bytesAt limits) (counts .slots) (counts .bytes) words fits (h .ends) (omega (arith, h .size))
+  pool-bytes = reach.bytes-taken (counts .slots) (counts .bytes) words fits (h .ends) (bytesAt limits) (omega (arith, h .size))
 
   pub fits-pool : (k off on : ℕ) → countsFit limits counts k off on ≡ textsFit (limits .slots) (limits .bytes) (poolOf limits counts words) k off on
   unfolding countsFit textsFit
@@ -77,27 +77,27 @@ module _ (limits : TextLimits) (counts : TextCounts) (words : List ℕ) (h : Cou
   module _ (slot : ℕ) (m : slot < counts .slots) where
     -- the end and the length of a slot's text
     pub end-taken : getD (take (counts .slots) words) slot 0 ≡ getD words slot 0
-    end-taken = reach.end-taken (bytesAt limits) (counts .slots) (counts .bytes) words fits (h .ends) slot m
+    end-taken = reach.end-taken (counts .slots) (counts .bytes) words fits (h .ends) slot m
 
     pub length-said : getD (take (counts .slots) words) slot 0 - getD (0 ∷ take (counts .slots) words) slot 0 ≡ lengthOf words slot
-    length-said = reach.length-said (bytesAt limits) (counts .slots) (counts .bytes) words fits (h .ends) slot m
+    length-said = reach.length-said (counts .slots) (counts .bytes) words fits (h .ends) slot m
 
     pub length-taken : getD (lengthsOf (take (counts .slots) words)) slot 0 ≡ lengthOf words slot
-    length-taken = reach.length-taken (bytesAt limits) (counts .slots) (counts .bytes) words fits (h .ends) slot m
+    length-taken = reach.length-taken (counts .slots) (counts .bytes) words fits (h .ends) slot m
 
     -- it begins behind the lengths before
     pub start-added : sum (take slot (lengthsOf (take (counts .slots) words))) ≡ startOf words slot
-    start-added = reach.start-added (bytesAt limits) (counts .slots) (counts .bytes) words fits (h .ends) slot m
+    start-added = reach.start-added (counts .slots) (counts .bytes) words fits (h .ends) slot m
 
     -- and ends among the bytes used
     pub text-rises : startOf words slot ≤ getD words slot 0
-    text-rises = reach.piece-rises (bytesAt limits) (counts .slots) (counts .bytes) words fits (h .ends) slot m
+    text-rises = reach.piece-rises (counts .slots) (counts .bytes) words fits (h .ends) slot m
 
     pub text-within : getD words slot 0 ≤ counts .bytes
-    text-within = reach.piece-within (bytesAt limits) (counts .slots) (counts .bytes) words fits (h .ends) slot m
+    text-within = reach.piece-within (counts .slots) (counts .bytes) words fits (h .ends) slot m
 
     pub text-end : startOf words slot + lengthOf words slot ≡ getD words slot 0
-    text-end = reach.piece-end (bytesAt limits) (counts .slots) (counts .bytes) words fits (h .ends) slot m
+    text-end = reach.piece-end (counts .slots) (counts .bytes) words fits (h .ends) slot m
 
     pub text-ends : startOf words slot + lengthOf words slot ≤ counts .bytes
     text-ends = omega (arith, text-end, text-within)
@@ -105,7 +105,7 @@ module _ (limits : TextLimits) (counts : TextCounts) (words : List ℕ) (h : Cou
     -- the text of a slot is where the ends say
     pub pool-text : textAt (poolOf limits counts words) (some slot) ≡ part (bytesAt limits + startOf words slot) (lengthOf words slot) words
     unfolding poolOf
-    pool-text = reach.piece-taken (bytesAt limits) (counts .slots) (counts .bytes) words fits (h .ends) slot m
+    pool-text = reach.piece-taken (counts .slots) (counts .bytes) words fits (h .ends) slot m (bytesAt limits)
 
     pub text-length : length (textAt (poolOf limits counts words) (some slot)) ≡ lengthOf words slot
     text-length = ap length pool-text ∙ length-part words (bytesAt limits + startOf words slot) (lengthOf words slot) (omega (arith, h .size, text-ends))
@@ -116,7 +116,7 @@ module _ (limits : TextLimits) (counts : TextCounts) (words : List ℕ) (h : Cou
     shown-place =
         let a : min (counts .slots) (limits .slots) ≡ counts .slots = omega (arith, h .slots) in
         let b : min (counts .bytes) (limits .bytes) ≡ counts .bytes = omega (arith, h .bytes) in
-        rw (a, b) (reach-place (bytesAt limits) (counts .slots) (counts .bytes) words fits (h .ends) slot m)
+        rw (a, b) (reach-place (counts .slots) (counts .bytes) words fits (h .ends) slot m)
 
   pub shown-text : (slot : ℕ) → textShown limits counts slot words ≡ textAt (poolOf limits counts words) (some slot)
   shown-text slot = go (decLt slot (counts .slots))

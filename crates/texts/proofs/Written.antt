@@ -13,10 +13,10 @@ use Rattle.words.specs.Pieces.{pieces}
 use Rattle.words.proofs.Parts.{drop-take, length-part, length-put, getD-part, getD-put-before, take-put-before, part-put-same, part-put-before, part-put-after, put-same}
 use Rattle.words.proofs.Lengths.{sum-split, pieces-set}
 use Rattle.words.specs.Ends.{startOf, lengthOf, lengthsOf, endsReach, movedEnd}
+use Rattle.words.proofs.Reach.{ends-above, lengths-moved, reach-moved, map-same}
 use Rattle.texts.specs.Words.{bytesAt, Counted, startAt, Movable, endsMoved, bytesMoved, roomed, rewritten}
 use Rattle.texts.specs.declared.TextLimits.{TextLimits}
 use Rattle.texts.specs.declared.TextCounts.{TextCounts}
-use Rattle.words.proofs.Reach.{ends-above, lengths-moved, reach-moved, map-same}
 use Rattle.texts.proofs.Words.{lengths-taken, lengths-add, end-taken, length-said, length-taken, start-added, text-end, text-ends, text-within}
 
 -- ---- a store outside a part

@@ -10,9 +10,9 @@ use Rattle.words.specs.Parts.{part, put}
 use Rattle.words.specs.Lists.{all, countOf}
 use Rattle.words.specs.Pieces.{pieces}
 use Rattle.words.specs.declared.ends.Place.{Place}
+use Rattle.words.specs.Ends.{startOf, lengthOf, lengthsOf, endsOf, endsReach, movedEnd, piecePlace, pieceShown}
 use Rattle.texts.specs.Pool.{Pool, bytesOf, storedSlot, stored, replaced, pushed, reclaimed}
 use Rattle.texts.specs.Rule.{FreeTexts}
-use Rattle.words.specs.Ends.{startOf, lengthOf, lengthsOf, endsOf, endsReach, movedEnd, piecePlace, pieceShown}
 use Rattle.texts.specs.declared.edits.Stored.{Stored}
 use Rattle.texts.specs.declared.edits.TextField.{TextField}
 use Rattle.texts.specs.declared.edits.TextField.the-variants.{Nothing, Slot}
