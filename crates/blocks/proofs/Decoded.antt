@@ -71,7 +71,7 @@ module _ (w : List ℕ) (limit used s n : ℕ) (h : Held w limit used s n) where
             let sh : Shaped A = shaped-held w limit used s n h in
             rw (words-room w A (block s n) k id r)
             (words-length (inserted A (block s n) k id .arena)
-            (inserted-caps-length A (block s n) k id ∙ sh .paired ∙ ids-limit ∙ sym (inserted-limit r))
+            (inserted-caps-length A (block s n) sh (inside-held w limit used s n h) k id r ∙ sh .paired ∙ ids-limit ∙ sym (inserted-limit r))
             ∙ omega (arith, inserted-limit r))
         go false r = rw (words-full w A (block s n) k id r) (h .twice)
 

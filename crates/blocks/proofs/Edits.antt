@@ -6,13 +6,13 @@ use mathlib.Core.List.{[], _∷_, _++_}
 use Prim.Native.Nat.{ℕ, _+_, _-_, _≤_, _<_}
 use native.Mathlib.Decide.{decLt}
 use native.Mathlib.Omega.{arith}
-use lib.ListN.{length, length-set}
+use lib.ListN.{length, set, replicate, length-set, length-replicate}
 use lib.Dec.{eqb, ltb}
 use borrow.Author.Tests.{lt-ltb, le-ltb, le-leb, lt-leb, leb-true, leb-false}
 use Rattle.words.specs.Lists.{insertAt, indexOf, without}
 use Rattle.words.proofs.Parts.{length-part, length-put}
 use Rattle.words.proofs.Lists.{length-insertAt, insertAt-end, length-removeAt, without-removeAt, without-absent}
-use Rattle.blocks.specs.Arena.{Arena, Block, block, Edit, capOf, listOf, takes, hasRoom, movedCapacity, inserted, insertedInPlace, insertedMoved, removed, droppedFrom}
+use Rattle.blocks.specs.Arena.{Arena, Block, block, Edit, capOf, listOf, takes, hasRoom, movedCapacity, unrecorded, inserted, insertedInPlace, insertedMoved, removed, droppedFrom}
 use Rattle.blocks.specs.Rule.{Inside, Shaped}
 use Rattle.blocks.proofs.Capacities.{capacity-least}
 
@@ -67,13 +67,6 @@ module _ (a : Arena) (b : Block) where
         go (yes h) = rw (inserted-in-place h) (omega (arith, takes-none h))
         go (no h) = rw (inserted-moved (omega arith)) (omega (arith, takes-moved (omega arith)))
 
-    pub inserted-caps-length : length (inserted a b k id .arena .caps) ≡ length (a .caps)
-    inserted-caps-length = go (decLt (b .len) (capOf a b))
-      where
-        go : Dec (b .len < capOf a b) → length (inserted a b k id .arena .caps) ≡ length (a .caps)
-        go (yes h) = rw (inserted-in-place h)
-        go (no h) = rw (inserted-moved (omega arith)) (simp length-set)
-
 -- ---- a block that lies in the arena
 
 module _ (a : Arena) (b : Block) (sh : Shaped a) (inb : Inside a b) where
@@ -100,6 +93,24 @@ module _ (a : Arena) (b : Block) (sh : Shaped a) (inb : Inside a b) where
       go (no h) =
           rw (inserted-moved a b k id (omega arith))
           (length-put (a .ids) (a .used) (insertAt k id (listOf a b)) (omega (arith, insertAt-length k id, room-then a b r, takes-moved a b (omega arith))))
+
+  -- the records of the entries that come into use are all within the arena
+  pub unrecorded-length : a .used + movedCapacity (b .len) ≤ length (a .ids)
+      → length (unrecorded (set (a .caps) (b .start) 0) (a .used) (movedCapacity (b .len))) ≡ length (a .caps)
+  unrecorded-length f =
+      length-put (set (a .caps) (b .start) 0) (a .used) (replicate (movedCapacity (b .len)) 0)
+      (omega (arith, length-set (a .caps) (b .start) 0, length-replicate {A = ℕ} (movedCapacity (b .len)) 0, sh .paired))
+      ∙ length-set (a .caps) (b .start) 0
+
+  pub inserted-caps-length : (k id : ℕ) → hasRoom a b ≡ true → length (inserted a b k id .arena .caps) ≡ length (a .caps)
+  inserted-caps-length k id r = go (decLt (b .len) (capOf a b))
+    where
+      go : Dec (b .len < capOf a b) → length (inserted a b k id .arena .caps) ≡ length (a .caps)
+      go (yes h) = rw (inserted-in-place a b k id h)
+      go (no h) =
+          rw (inserted-moved a b k id (omega arith))
+          (length-set (unrecorded (set (a .caps) (b .start) 0) (a .used) (movedCapacity (b .len))) (a .used) (movedCapacity (b .len))
+          ∙ unrecorded-length (omega (arith, room-then a b r, takes-moved a b (omega arith))))
 
 -- ---- removal
 

@@ -4,11 +4,11 @@ use mathlib.Core.Path.{_≡_, sym, ap, _∙_}
 use mathlib.Core.List.{List, _++_}
 use Prim.Native.Nat.{ℕ, _+_, _≤_}
 use native.Mathlib.Omega.{arith}
-use lib.ListN.{length, set, take, drop, take-append-drop, length-drop}
+use lib.ListN.{length, set, take, drop, replicate, take-append-drop, length-drop}
 use lib.Seq.{length-take-le}
 use Rattle.words.specs.Parts.{part, put}
-use Rattle.words.proofs.Parts.{part-left, put-left, set-right, length-put}
-use Rattle.blocks.specs.Arena.{block, arenaOf}
+use Rattle.words.proofs.Parts.{part-left, put-left, put-right, set-right, length-put}
+use Rattle.blocks.specs.Arena.{block, arenaOf, unrecorded}
 use Rattle.blocks.specs.Rule.{Inside, Shaped}
 use Rattle.blocks.specs.Held.{Held}
 use Rattle.blocks.proofs.Capacities.{capacity-least}
@@ -18,11 +18,13 @@ put-set x y vs p s v h =
     let lz : length (put p vs x) ≡ length x = length-put x p vs h in
     rw (put-left x y p vs h, ← lz, set-right (put p vs x) y s v)
 
-put-set-set : (x y vs : List ℕ) (p s t u v : ℕ) → p + length vs ≤ length x
-    → set (set (put p vs (x ++ y)) (length x + s) u) (length x + t) v ≡ put p vs x ++ set (set y s u) t v
-put-set-set x y vs p s t u v h =
+-- a list of ids and a record stored, the records of n entries cleared, and a record stored among them
+put-cleared : (x y vs : List ℕ) (p s t n v : ℕ) → p + length vs ≤ length x
+    → set (put (length x + t) (replicate n 0) (set (put p vs (x ++ y)) (length x + s) 0)) (length x + t) v
+    ≡ put p vs x ++ set (unrecorded (set y s 0) t n) t v
+put-cleared x y vs p s t n v h =
     let lz : length (put p vs x) ≡ length x = length-put x p vs h in
-    rw (put-set x y vs p s u h, ← lz, set-right (put p vs x) (set y s u) t v)
+    rw (put-set x y vs p s 0 h, ← lz, put-right (put p vs x) (set y s 0) t (replicate n 0), set-right (put p vs x) (unrecorded (set y s 0) t n) t v)
 
 -- the first limit words are the ids
 module _ (w : List ℕ) (limit : ℕ) (half : limit ≤ length w) where
@@ -44,12 +46,13 @@ module _ (w : List ℕ) (limit : ℕ) (half : limit ≤ length w) where
       ∙ ap (λ (i : ℕ). set (put p vs (take limit w ++ drop limit w)) (i + s) v) (sym ids-length)
       ∙ put-set (take limit w) (drop limit w) vs p s v (omega (arith, ids-length))
 
-  pub put-set-set-ids : (vs : List ℕ) (p s t u v : ℕ) → p + length vs ≤ limit
-      → set (set (put p vs w) (limit + s) u) (limit + t) v ≡ put p vs (take limit w) ++ set (set (drop limit w) s u) t v
-  put-set-set-ids vs p s t u v h =
-      ap (λ (r : List ℕ). set (set (put p vs r) (limit + s) u) (limit + t) v) (sym halves)
-      ∙ ap (λ (i : ℕ). set (set (put p vs (take limit w ++ drop limit w)) (i + s) u) (i + t) v) (sym ids-length)
-      ∙ put-set-set (take limit w) (drop limit w) vs p s t u v (omega (arith, ids-length))
+  pub put-cleared-ids : (vs : List ℕ) (p s t n v : ℕ) → p + length vs ≤ limit
+      → set (put (limit + t) (replicate n 0) (set (put p vs w) (limit + s) 0)) (limit + t) v
+      ≡ put p vs (take limit w) ++ set (unrecorded (set (drop limit w) s 0) t n) t v
+  put-cleared-ids vs p s t n v h =
+      ap (λ (r : List ℕ). set (put (limit + t) (replicate n 0) (set (put p vs r) (limit + s) 0)) (limit + t) v) (sym halves)
+      ∙ ap (λ (i : ℕ). set (put (i + t) (replicate n 0) (set (put p vs (take limit w ++ drop limit w)) (i + s) 0)) (i + t) v) (sym ids-length)
+      ∙ put-cleared (take limit w) (drop limit w) vs p s t n v (omega (arith, ids-length))
 
 -- ---- a block that a call may edit
 

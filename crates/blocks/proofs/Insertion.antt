@@ -6,15 +6,15 @@ use mathlib.Core.List.{List}
 use Prim.Native.Nat.{ℕ, _+_, _≤_, _<_}
 use native.Mathlib.Decide.{ℕ-discrete, decLt}
 use native.Mathlib.Omega.{arith}
-use lib.ListN.{length, getD, set, length-set}
+use lib.ListN.{length, getD, set, replicate, length-set}
 use lib.Seq.{getD-set-same, getD-set-other, set-out}
 use Rattle.words.specs.Parts.{part, put}
 use Rattle.words.specs.Lists.{insertAt}
-use Rattle.words.proofs.Parts.{part-put-same, part-put-before, length-put}
-use Rattle.blocks.specs.Arena.{Arena, Block, block, capacityOf, capOf, listOf, hasRoom, movedCapacity, inserted, insertedInPlace, insertedMoved}
+use Rattle.words.proofs.Parts.{part-put-same, part-put-before, getD-put-before, length-put}
+use Rattle.blocks.specs.Arena.{Arena, Block, block, capacityOf, capOf, listOf, hasRoom, movedCapacity, unrecorded, inserted, insertedInPlace, insertedMoved}
 use Rattle.blocks.specs.Rule.{Inside, Apart, empty-left, empty-right, before, behind, Shaped, BlocksApart, Edited}
 use Rattle.blocks.proofs.Capacities.{capacity-empty, capacity-some, capacity-least, spare-some, capacity-grown, capacity-less}
-use Rattle.blocks.proofs.Edits.{takes-moved, room-then, inserted-in-place, inserted-moved, block-fits, insertAt-length}
+use Rattle.blocks.proofs.Edits.{takes-moved, room-then, inserted-in-place, inserted-moved, block-fits, unrecorded-length, insertAt-length}
 use Rattle.blocks.proofs.Apart.{OneEdit, edited, put-apart}
 
 module _ (a : Arena) (b : Block) (sh : Shaped a) (inb : Inside a b) where
@@ -58,10 +58,13 @@ module _ (a : Arena) (b : Block) (sh : Shaped a) (inb : Inside a b) where
       abbrev movedCaps : List ℕ
       movedCaps = insertedMoved a b k id .arena .caps
 
+      abbrev fresh : List ℕ
+      fresh = unrecorded (set (a .caps) (b .start) 0) (a .used) (movedCapacity (b .len))
+
       new-capacity : capacityOf movedCaps (block (a .used) (b .len + 1)) ≡ movedCapacity (b .len)
       new-capacity =
           capacity-some movedCaps (block (a .used) (b .len + 1)) (λ e. omega arith)
-          ∙ omega (arith, getD-set-same (set (a .caps) (b .start) 0) (a .used) (movedCapacity (b .len)) 0 (simp length-set (omega (arith, sh .paired))))
+          ∙ omega (arith, getD-set-same fresh (a .used) (movedCapacity (b .len)) 0 (omega (arith, unrecorded-length a b sh inb fit, sh .paired)))
 
       -- the record at the old start is erased, whosever it is: no record grows
       erased : (s : ℕ) → getD (set (a .caps) (b .start) 0) s 0 ≤ getD (a .caps) s 0
@@ -82,8 +85,9 @@ module _ (a : Arena) (b : Block) (sh : Shaped a) (inb : Inside a b) where
               (omega (
                 arith,
                 erased (c .start),
-                getD-set-other (set (a .caps) (b .start) 0) (a .used) (c .start) (movedCapacity (b .len)) 0
-                    (λ e. omega (arith, ic .below, capacity-least (a .caps) c)),
+                getD-put-before (set (a .caps) (b .start) 0) (a .used) (replicate (movedCapacity (b .len)) 0) (c .start) 0
+                    (omega (arith, ic .below, capacity-least (a .caps) c)) (simp length-set (omega (arith, sh .paired))),
+                getD-set-other fresh (a .used) (c .start) (movedCapacity (b .len)) 0 (λ e. omega (arith, ic .below, capacity-least (a .caps) c)),
               ))
 
       moved-edit : OneEdit a (insertedMoved a b k id .arena) b (block (a .used) (b .len + 1)) (insertAt k id (listOf a b))
@@ -92,7 +96,10 @@ module _ (a : Arena) (b : Block) (sh : Shaped a) (inb : Inside a b) where
           let m : length (put (a .used) (insertAt k id (listOf a b)) (a .ids)) ≡ length (a .ids) =
           length-put (a .ids) (a .used) (insertAt k id (listOf a b)) (omega arith) in
           record {
-            shaped = record { fits = omega arith; paired = simp length-set (sh .paired ∙ sym m) };
+            shaped = record {
+              fits = omega arith;
+              paired = length-set fresh (a .used) (movedCapacity (b .len)) ∙ unrecorded-length a b sh inb fit ∙ sh .paired ∙ sym m;
+            };
             list = put-list (a .used) (sh .fits);
             inside = record { below = omega (arith, new-capacity) };
             grows = omega arith;

@@ -6,7 +6,7 @@ use mathlib.Core.List.{List}
 use Prim.Native.Nat.{ℕ, _+_, _*_, _-_, _≤_, _<_, min, max}
 use native.Mathlib.Decide.{decLt}
 use native.Mathlib.Omega.{arith}
-use lib.ListN.{length, getD, set, take, drop}
+use lib.ListN.{length, getD, set, take, drop, replicate}
 use lib.Seq.{getD-drop}
 use lib.Dec.{leb}
 use borrow.Author.Tests.{leb-true, leb-false}
@@ -20,7 +20,7 @@ use Rattle.blocks.specs.Answer.{insertAnswer, insertWords}
 use Rattle.blocks.specs.Held.{Held}
 use Rattle.blocks.proofs.Capacities.{capacity-empty, capacity-some}
 use Rattle.blocks.proofs.Edits.{takes-none, takes-moved, room-when, no-room-when, inserted-in-place, inserted-moved, list-length, insertAt-length}
-use Rattle.blocks.proofs.Halves.{ids-length, put-ids, put-set-set-ids, shaped-held, inside-held, half, block-ids}
+use Rattle.blocks.proofs.Halves.{ids-length, put-ids, put-cleared-ids, shaped-held, inside-held, half, block-ids}
 
 pub capacity-none : (w : List ℕ) (limit s n : ℕ) → n ≡ 0 → 0 ≡ capacityOf (drop limit w) (block s n)
 capacity-none w limit s n e = sym (capacity-empty (drop limit w) (block s n) e)
@@ -106,7 +106,7 @@ module _ (w : List ℕ) (limit used s n : ℕ) (held : Held w limit used s n) wh
                 ∙ put-ids w limit (half w limit used s n held) s (insertAt k id (part s n (take limit w))) (omega (arith, new-length, held .fits, held .inside)),
           )
 
-      pub inserts-moved : (more ≡ 0 → ⊥) → (w′ : List ℕ) → w′ ≡ set (set (put used (insertAt index id (part s n w)) w) (limit + s) 0) (limit + used) more
+      pub inserts-moved : (more ≡ 0 → ⊥) → (w′ : List ℕ) → w′ ≡ set (put (limit + used) (replicate more 0) (set (put used (insertAt index id (part s n w)) w) (limit + s) 0)) (limit + used) more
           → Inserts (At used (n + 1) (used + more) index) w′
       unfolding insertAnswer insertWords
       inserts-moved z w′ q =
@@ -114,7 +114,7 @@ module _ (w : List ℕ) (limit used s n : ℕ) (held : Held w limit used s n) wh
           let r : more ≡ movedCapacity n = e ∙ takes-moved (arenaOf limit used w) (block s n) past in
           rw (room, inserted-moved (arenaOf limit used w) (block s n) k id past, r) (
             ap (At used (n + 1) (used + movedCapacity n)) m,
-            q ∙ ap (λ (l : List ℕ). set (set (put used l w) (limit + s) 0) (limit + used) more) clamped
-                ∙ ap (set (set (put used (insertAt k id (part s n (take limit w))) w) (limit + s) 0) (limit + used)) r
-                ∙ put-set-set-ids w limit (half w limit used s n held) (insertAt k id (part s n (take limit w))) used s used 0 (movedCapacity n) (omega (arith, new-length, held .fits)),
+            q ∙ ap (λ (l : List ℕ). set (put (limit + used) (replicate more 0) (set (put used l w) (limit + s) 0)) (limit + used) more) clamped
+                ∙ ap (λ (c : ℕ). set (put (limit + used) (replicate c 0) (set (put used (insertAt k id (part s n (take limit w))) w) (limit + s) 0)) (limit + used) c) r
+                ∙ put-cleared-ids w limit (half w limit used s n held) (insertAt k id (part s n (take limit w))) used s used (movedCapacity n) (movedCapacity n) (omega (arith, new-length, held .fits)),
           )

@@ -66,13 +66,17 @@ insertedInPlace a b k id =
       block = block (b .start) (b .len + 1);
     }
 
+-- no block starts at the n entries from s on: what their records held before they came into use is erased
+abbrev pub unrecorded : List ℕ → ℕ → ℕ → List ℕ
+unrecorded caps s n = put s (replicate n 0) caps
+
 -- "else the block moves to the arena's end ..: the record at the OLD start is erased, even if another block starts there, then the new one written."
 abbrev pub insertedMoved : Arena → Block → ℕ → ℕ → Edit
 insertedMoved a b k id =
     record {
       arena = record {
         ids = put (a .used) (insertAt k id (listOf a b)) (a .ids);
-        caps = set (set (a .caps) (b .start) 0) (a .used) (movedCapacity (b .len));
+        caps = set (unrecorded (set (a .caps) (b .start) 0) (a .used) (movedCapacity (b .len))) (a .used) (movedCapacity (b .len));
         used = a .used + movedCapacity (b .len);
       };
       block = block (a .used) (b .len + 1);

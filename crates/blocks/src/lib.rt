@@ -6,7 +6,7 @@ pub mod marks;
 ghost use mathlib.Core.Path.{_≡_};
 ghost use mathlib.Core.Bool.{cond};
 ghost use Prim.Native.Nat.{ℕ, _+_, _≤_, _<_};
-ghost use lib.ListN.{length, drop, set};
+ghost use lib.ListN.{length, drop, set, replicate};
 ghost use lib.Dec.{eqb};
 ghost use Rattle.words.specs.Parts.{part, put};
 ghost use Rattle.words.specs.Lists.{insertAt, removeAt};
@@ -95,7 +95,8 @@ fn insert_in_place(ids: &mut [u64], start: usize, len: usize, at: usize, id: u64
     ids[split] = id;
 }
 
-// Copies the block to the arena's end with id put at index at, erases the record at the old start and records the new capacity.
+// Copies the block to the arena's end with id put at index at, erases the record at the old start and those of the entries that come into use,
+// and records the new capacity.
 fn move_block_with(
     arena: &mut [u64],
     limit: usize,
@@ -108,11 +109,12 @@ fn move_block_with(
 )
     requires { ⌜ length (now arena) ≡ limit + limit ⌝ }
     requires { ⌜ (at ≤ len) × (start + len ≤ used) × (len < cap) × (used + cap ≤ limit) ⌝ }
-    ensures { λ _. ⌜ now (arena .exit) ≡ set (set (put used (insertAt at id (part start len (now (arena .entry)))) (now (arena .entry))) (limit + start) 0) (limit + used) cap ⌝ }
+    ensures { λ _. ⌜ now (arena .exit) ≡ set (put (limit + used) (replicate cap 0) (set (put used (insertAt at id (part start len (now (arena .entry)))) (now (arena .entry))) (limit + start) 0)) (limit + used) cap ⌝ }
 {
     words::copy(arena, start, len, used);
     insert_in_place(arena, used, len, at, id);
     arena[limit + start] = 0;
+    words::fill(arena, limit + used, cap, 0);
     arena[limit + used] = cap as u64;
 }
 

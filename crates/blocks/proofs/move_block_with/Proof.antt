@@ -5,7 +5,7 @@ use mathlib.Core.Logic.{inr}
 use mathlib.Core.List.{List}
 use Prim.Native.Nat.{ℕ, _+_, _≤_}
 use native.Mathlib.Omega.{arith}
-use lib.ListN.{length, set, length-set}
+use lib.ListN.{length, set, replicate, length-set}
 use Rattle.words.specs.Parts.{part, put}
 use Rattle.words.specs.Lists.{insertAt}
 use Rattle.words.proofs.Parts.{put-put, part-put-same, length-part}
@@ -26,8 +26,8 @@ opened l m o s n used k id hs hu e q =
     ∙ ap (put used (insertAt k id b)) e
     ∙ put-put l used (insertAt k id b) b (omega arith) (omega (arith, length-insertAt k id b))
 
-recorded : (l m : List ℕ) (i j v : ℕ) → l ≡ m → set (set l i 0) j v ≡ set (set m i 0) j v
-recorded l m i j v e = rw e
+recorded : (l m o : List ℕ) (i j n v : ℕ) → l ≡ m → o ≡ put j (replicate n 0) (set l i 0) → set o j v ≡ set (put j (replicate n 0) (set m i 0)) j v
+recorded l m o i j n v e q = rw (q, e)
 
 copy-requires : tie.Need-copy-requires
 copy-requires c κs = (inr (omega arith), omega arith)
@@ -44,6 +44,12 @@ mul-arena c = search needs
 slice-write-arena : tie.Need-slice-write-arena
 slice-write-arena c = search needs
 
+add-fill : tie.Need-add-fill
+add-fill c = search needs
+
+fill-requires : tie.Need-fill-requires
+fill-requires c κs = simp length-set (omega arith)
+
 add-arena-2 : tie.Need-add-arena-2
 add-arena-2 c = search needs
 
@@ -51,16 +57,17 @@ mul-arena-2 : tie.Need-mul-arena-2
 mul-arena-2 c = search needs
 
 slice-write-arena-2 : tie.Need-slice-write-arena-2
-slice-write-arena-2 c = simp length-set (omega arith)
+slice-write-arena-2 c = omega (arith, simp length-set at (c .before .before .fill .kept .0))
 
 same-length : tie.Need-same-length
-same-length c = simp length-set (omega arith)
+same-length c = simp length-set (omega (arith, simp length-set at (c .before .before .fill .kept .0)))
 
 returns : tie.Need-returns
 returns c =
-    let start = c .before .before .before .before .before .before .before .before .before in
-    recorded _ _ _ _ _
-    (opened _ _ _ _ _ _ _ _ (omega (arith, start .pre)) (omega (arith, start .pre)) (c .before .before .before .before .before .before .copy .ensures) (c .before .before .insert-in-place .ensures))
+    let start = c .before .before .before .before .before .before .before .before .before .before .before .before .before in
+    recorded _ _ _ (start .args .limit + start .args .start) _ (start .args .cap) _
+    (opened _ _ _ _ _ _ _ _ (omega (arith, start .pre)) (omega (arith, start .pre)) (c .before .before .before .before .before .before .before .before .before .before .copy .ensures) (c .before .before .before .before .before .before .insert-in-place .ensures))
+    (c .before .before .fill .ensures)
 
 pub move-block-with-spec : {M : Type 1} → statement M
 move-block-with-spec =
@@ -71,6 +78,8 @@ move-block-with-spec =
     add-arena
     mul-arena
     slice-write-arena
+    add-fill
+    fill-requires
     add-arena-2
     mul-arena-2
     slice-write-arena-2
