@@ -3,12 +3,12 @@
 use mathlib.Core.Path.{refl}
 use Rattle.words.specs.Parts.{part, put}
 use Rattle.slots.specs.Records.{recordOf, isSpan, isData, isParent, areRanges, isNode}
-use Rattle.slots.specs.Regions.{generationAt, freeAt, recordAt, putGeneration, putFree, putRecord}
-use Rattle.slots.specs.Slots.{isCurrent, resolves, taken, takenWords, freedWords}
+use Rattle.slots.specs.Regions.{generationAt, freeAt, recordAt, putGeneration, putFree, putRecord, putOrder}
+use Rattle.slots.specs.Slots.{isCurrent, resolves, taken, takenGenerations, takenWords, freedWords}
 use Rattle.slots.specs.Examples.{SlotExamples}
 
 pub slot-examples : SlotExamples
-unfolding part put recordOf isSpan isData isParent areRanges isNode generationAt freeAt recordAt putGeneration putFree putRecord isCurrent resolves taken takenWords freedWords
+unfolding part put recordOf isSpan isData isParent areRanges isNode generationAt freeAt recordAt putGeneration putFree putRecord putOrder isCurrent resolves taken takenGenerations takenWords freedWords
 slot-examples = record {
   first-handle = refl;
   second-handle = refl;

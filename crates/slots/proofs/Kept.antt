@@ -8,12 +8,12 @@ use native.Mathlib.Omega.{arith}
 use lib.ListN.{length, getD, set}
 use Rattle.words.proofs.Parts.{part-none}
 use Rattle.slots.specs.declared.slot.Taken.{Taken}
-use Rattle.slots.specs.Regions.{slotsWords, generationAt, freeAt, putGeneration}
+use Rattle.slots.specs.Regions.{slotsWords, generationAt, freeAt, putGeneration, putOrder, noPosition}
 use Rattle.slots.specs.FreeRule.{generations, freeStack, FreeRule}
 use Rattle.slots.specs.Slots.{up, hasSlot, takenWords, CanTake, freedWords}
 use Rattle.slots.proofs.Regions.{length-putGeneration}
 use Rattle.slots.proofs.FreeStack.{rule-freed, rule-reused, rule-made, rule-room}
-use Rattle.slots.proofs.Stacks.{getD-generations, getD-freeStack, length-generations, length-freeStack, freeStack-next, generations-putGeneration, freeStack-putGeneration, generations-made, freeStack-putFree, generations-putFree, takenWords-put, taken-reused, taken-new, freedWords-put}
+use Rattle.slots.proofs.Stacks.{getD-generations, getD-freeStack, length-generations, length-freeStack, freeStack-next, generations-putGeneration, freeStack-putGeneration, generations-made, freeStack-putFree, generations-putFree, generations-putOrder, freeStack-putOrder, takenWords-put, taken-reused, taken-new, freedWords-put}
 
 module _ (n : ℕ) (w : List ℕ) (made free : ℕ) (long : slotsWords n ≤ length w) (mb : made ≤ n) (fb : free ≤ n) (r : FreeRule (generations n w made) (freeStack n w free)) where
   -- an entry of the free stack is a slot made
@@ -76,18 +76,28 @@ module _ (n : ℕ) (w : List ℕ) (made free : ℕ) (long : slotsWords n ≤ len
     pub reused-slot : top < made
     reused-slot = rule-entry (free - 1) (omega arith)
 
-    reused-words : takenWords n w made free ≡ putGeneration n w top (up (generationAt n w top))
-    reused-words = takenWords-put n w made free ∙ ap (λ (t : Taken). putGeneration n w (t .id .index) (t .id .generation)) (taken-reused n w made free b)
+    abbrev renewed : List ℕ
+    renewed = putGeneration n w top (up (generationAt n w top))
+
+    long-renewed : slotsWords n ≤ length renewed
+    long-renewed = rw (length-putGeneration n w top (up (generationAt n w top))) long
+
+    reused-words : takenWords n w made free ≡ putOrder n renewed top noPosition
+    reused-words = takenWords-put n w made free ∙ ap (λ (t : Taken). putOrder n (putGeneration n w (t .id .index) (t .id .generation)) (t .id .index) noPosition) (taken-reused n w made free b)
 
     pub reused-generations : generations n (takenWords n w made free) made ≡ set (generations n w made) top (up (generationAt n w top))
     reused-generations =
         let k : top < made = reused-slot in
-        ap (λ (v : List ℕ). generations n v made) reused-words ∙ generations-putGeneration n w long top (up (generationAt n w top)) (omega arith) made mb k
+        ap (λ (v : List ℕ). generations n v made) reused-words
+        ∙ generations-putOrder n renewed long-renewed top noPosition (omega arith) made mb
+        ∙ generations-putGeneration n w long top (up (generationAt n w top)) (omega arith) made mb k
 
     pub reused-stack : freeStack n (takenWords n w made free) (free - 1) ≡ freeStack n w (free - 1)
     reused-stack =
         let k : top < made = reused-slot in
-        ap (λ (v : List ℕ). freeStack n v (free - 1)) reused-words ∙ freeStack-putGeneration n w long top (up (generationAt n w top)) (omega arith) (free - 1) (omega arith)
+        ap (λ (v : List ℕ). freeStack n v (free - 1)) reused-words
+        ∙ freeStack-putOrder n renewed long-renewed top noPosition (omega arith) (free - 1) (omega arith)
+        ∙ freeStack-putGeneration n w long top (up (generationAt n w top)) (omega arith) (free - 1) (omega arith)
 
     pub reused-rule : FreeRule (generations n (takenWords n w made free) made) (freeStack n (takenWords n w made free) (free - 1))
     reused-rule =
@@ -97,11 +107,14 @@ module _ (n : ℕ) (w : List ℕ) (made free : ℕ) (long : slotsWords n ≤ len
 
   -- ---- a slot is made
   module _ (e : free ≡ 0) (b : made < n) where
-    made-words : takenWords n w made free ≡ putGeneration n w made 0
-    made-words = takenWords-put n w made free ∙ ap (λ (t : Taken). putGeneration n w (t .id .index) (t .id .generation)) (taken-new n w made free e)
+    made-words : takenWords n w made free ≡ putOrder n (putGeneration n w made 0) made noPosition
+    made-words = takenWords-put n w made free ∙ ap (λ (t : Taken). putOrder n (putGeneration n w (t .id .index) (t .id .generation)) (t .id .index) noPosition) (taken-new n w made free e)
 
     pub made-generations : generations n (takenWords n w made free) (made + 1) ≡ generations n w made ++ (0 ∷ [])
-    made-generations = ap (λ (v : List ℕ). generations n v (made + 1)) made-words ∙ generations-made n w long made b 0
+    made-generations =
+        ap (λ (v : List ℕ). generations n v (made + 1)) made-words
+        ∙ generations-putOrder n (putGeneration n w made 0) (rw (length-putGeneration n w made 0) long) made noPosition b (made + 1) (omega arith)
+        ∙ generations-made n w long made b 0
 
     pub made-stack : freeStack n (takenWords n w made free) 0 ≡ freeStack n w free
     made-stack = part-none (takenWords n w made free) n ∙ sym (ap (freeStack n w) e ∙ part-none w n)

@@ -1,10 +1,11 @@
 -- Handles that resolve, and slots that are taken and freed: each way through the definitions, and what they tell.
 -- Assumes nothing.
-use mathlib.Core.Path.{_≡_, refl, ap}
+use mathlib.Core.Path.{_≡_, refl, sym, ap, subst, _∙_}
 use mathlib.Core.Bool.{Bool, true, false, _&&_, _||_, cond, false≢true}
 use mathlib.Core.List.{List}
 use Prim.Native.Nat.{ℕ, _+_, _-_, _%_, _<_, _≤_}
 use native.Mathlib.Omega.{arith}
+use native.Mathlib.Decide.{decLt}
 use lib.ListN.{getD, set}
 use lib.Dec.{eqb, ltb}
 use borrow.Author.Tests.{ltb-true, lt-ltb, le-ltb, eqb-true, eq-eqb, ne-eqb}
@@ -12,9 +13,10 @@ use Rattle.slots.specs.declared.NodeId.{NodeId}
 use Rattle.slots.specs.declared.Node.{Node}
 use Rattle.slots.specs.declared.Loaded.{Loaded}
 use Rattle.slots.specs.declared.Loaded.the-variants.{Found, NoNode}
+use Rattle.slots.specs.declared.slot.Taken.{Taken}
 use Rattle.slots.specs.Records.{isNode, foundNode, nodeOf}
-use Rattle.slots.specs.Regions.{generationAt, freeAt, recordAt, nodeAt, putGeneration, putFree}
-use Rattle.slots.specs.Slots.{up, isCurrent, resolves, resolved, taken, takenWords, CanTake, freedWords}
+use Rattle.slots.specs.Regions.{generationAt, freeAt, recordAt, nodeAt, putGeneration, putFree, putOrder, noPosition}
+use Rattle.slots.specs.Slots.{up, isCurrent, resolves, resolved, taken, takenGenerations, takenWords, CanTake, freedWords}
 use Rattle.slots.proofs.Records.{is-node-found, found-is-node}
 use Rattle.slots.proofs.Lists.{both-left, both-right}
 
@@ -115,8 +117,8 @@ module _ (n : ℕ) (w : List ℕ) (made free : ℕ) where
   -- a slot reused
   pub reused : 0 < free → (g : ℕ) (v : List ℕ) (s : ℕ) → s ≡ getD w (n + (free - 1)) 0
       → (g ≡ up (generationAt n w s)) × (v ≡ putGeneration n w s (up (generationAt n w s)))
-      → (record { id = record { index = s; generation = g }; made = made; free = free - 1 } ≡ taken n w made free) × (v ≡ takenWords n w made free)
-  unfolding taken takenWords freeAt
+      → (record { id = record { index = s; generation = g }; made = made; free = free - 1 } ≡ taken n w made free) × (v ≡ takenGenerations n w made free)
+  unfolding taken takenGenerations freeAt
   reused b g v s q e = rw (lt-ltb 0 free b, ← q) (rw (e .0), e .1)
 
   -- a new slot
@@ -128,11 +130,25 @@ module _ (n : ℕ) (w : List ℕ) (made free : ℕ) where
       go false e h = absurd (false≢true (rw (le-ltb 0 free z) at h))
 
   pub minted : free ≤ 0
-      → (record { id = record { index = made; generation = 0 }; made = made + 1; free = 0 } ≡ taken n w made free) × (set w made 0 ≡ takenWords n w made free)
-  unfolding taken takenWords putGeneration
+      → (record { id = record { index = made; generation = 0 }; made = made + 1; free = 0 } ≡ taken n w made free) × (set w made 0 ≡ takenGenerations n w made free)
+  unfolding taken takenGenerations putGeneration
   minted z =
       let e : free ≡ 0 = omega arith in
       rw (le-ltb 0 free z, e) (refl, refl)
+
+  -- the slot taken, and its order word
+  pub taken-below : CanTake n w made free → (t : Taken) → t ≡ taken n w made free → t .id .index < n
+  unfolding taken freeAt
+  taken-below k t e = subst (λ (x : Taken). x .id .index < n) (sym e) (go (decLt 0 free))
+    where
+      go : Dec (0 < free) → cond (ltb 0 free) (getD w (n + (free - 1)) 0) made < n
+      go (yes b) = rw (lt-ltb 0 free b) (top k b .slot)
+      go (no b) = rw (le-ltb 0 free (omega arith)) (new-slot k (omega arith))
+
+  pub unplaced : (t : Taken) (v u : List ℕ) → (t ≡ taken n w made free) × (v ≡ takenGenerations n w made free) → u ≡ putOrder n v (t .id .index) noPosition
+      → (t ≡ taken n w made free) × (u ≡ takenWords n w made free)
+  unfolding taken takenWords
+  unplaced t v u e q = (e .0, q ∙ ap (λ (x : List ℕ). putOrder n x (t .id .index) noPosition) (e .1) ∙ ap (λ (x : Taken). putOrder n (takenGenerations n w made free) (x .id .index) noPosition) (e .0))
 
 -- ---- freeing a slot
 

@@ -13,10 +13,10 @@ use Rattle.words.specs.Parts.{part}
 use Rattle.words.specs.Lists.{tabulate}
 use Rattle.words.proofs.Parts.{length-part, getD-part, part-snoc}
 use Rattle.words.proofs.Lists.{length-tabulate, getD-tabulate}
-use Rattle.slots.specs.Regions.{slotsWords, generationAt, freeAt, putGeneration, putFree}
+use Rattle.slots.specs.Regions.{slotsWords, generationAt, freeAt, putGeneration, putFree, putOrder, noPosition}
 use Rattle.slots.specs.FreeRule.{generations, freeStack}
-use Rattle.slots.specs.Slots.{up, taken, takenWords, freedWords}
-use Rattle.slots.proofs.Regions.{length-putGeneration, length-putFree, generationAt-putGeneration, generationAt-putGeneration-other, freeAt-putGeneration, freeAt-putFree, freeAt-putFree-other, generationAt-putFree}
+use Rattle.slots.specs.Slots.{up, taken, takenGenerations, takenWords, freedWords}
+use Rattle.slots.proofs.Regions.{length-putGeneration, length-putFree, generationAt-putGeneration, generationAt-putGeneration-other, freeAt-putGeneration, freeAt-putFree, freeAt-putFree-other, generationAt-putFree, length-putOrder, generationAt-putOrder, freeAt-putOrder}
 
 module _ (n : ℕ) (w : List ℕ) where
   pub getD-generations : (made s : ℕ) → s < made → getD (generations n w made) s 0 ≡ generationAt n w s
@@ -111,6 +111,17 @@ module _ (n : ℕ) (w : List ℕ) (long : slotsWords n ≤ length w) where
       ∙ ap (λ (l : List ℕ). l ++ (generationAt n v made ∷ [])) (generations-same n v w lv long made (omega arith) (λ s h. generationAt-putGeneration-other n w long made g b s (λ e. omega arith)))
       ∙ ap (λ (k : ℕ). generations n w made ++ (k ∷ [])) (generationAt-putGeneration n w long made g b)
 
+  -- ---- after an order word was written
+  module _ (s key : ℕ) (b : s < n) where
+    ordered : slotsWords n ≤ length (putOrder n w s key)
+    ordered = rw (length-putOrder n w s key) long
+
+    pub generations-putOrder : (made : ℕ) → made ≤ n → generations n (putOrder n w s key) made ≡ generations n w made
+    generations-putOrder made k = generations-same n (putOrder n w s key) w ordered long made k (λ t h. generationAt-putOrder n w long s key b t (omega arith))
+
+    pub freeStack-putOrder : (free : ℕ) → free ≤ n → freeStack n (putOrder n w s key) free ≡ freeStack n w free
+    freeStack-putOrder free k = freeStack-same n (putOrder n w s key) w ordered long free k (λ i h. freeAt-putOrder n w long s key b i (omega arith))
+
   -- ---- after a slot was pushed
   module _ (free s : ℕ) (b : free < n) where
     pushed : slotsWords n ≤ length (putFree n w free s)
@@ -128,9 +139,10 @@ module _ (n : ℕ) (w : List ℕ) (long : slotsWords n ≤ length w) where
 -- ---- what is taken, and what the words are then
 
 module _ (n : ℕ) (w : List ℕ) (made free : ℕ) where
-  -- the words after are those with the generation of the handle that was made
-  pub takenWords-put : takenWords n w made free ≡ putGeneration n w (taken n w made free .id .index) (taken n w made free .id .generation)
-  unfolding taken takenWords
+  -- the words after are those with the generation of the handle that was made, and no position
+  pub takenWords-put : takenWords n w made free
+      ≡ putOrder n (putGeneration n w (taken n w made free .id .index) (taken n w made free .id .generation)) (taken n w made free .id .index) noPosition
+  unfolding taken takenGenerations takenWords
   takenWords-put = refl
 
   pub taken-reused : 0 < free

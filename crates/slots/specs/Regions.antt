@@ -73,10 +73,14 @@ module _ (n : ℕ) (w : List ℕ) where
   unfoldable pub putOrder : ℕ → ℕ → List ℕ
   putOrder s key = set w (orderStart n + s) key
 
+-- 01: "4,294,967,295 for nodes outside and free slots"
+abbrev pub noPosition : ℕ
+noPosition = 4294967295
+
 -- the words with no position for the slots made
 unfoldable pub clearOrder : ℕ → List ℕ → ℕ → List ℕ
-clearOrder n w made = put (orderStart n) (replicate made 4294967295) w
+clearOrder n w made = put (orderStart n) (replicate made noPosition) w
 
--- 01: "no key for an order word above 32 bits", and 4,294,967,295 "for nodes outside and free slots"
+-- 01: "no key for an order word above 32 bits"
 unfoldable pub keyOf : ℕ → OrderKey
-keyOf word = cond (ltb word 4294967295) (At word) None
+keyOf word = cond (ltb word noPosition) (At word) None

@@ -10,7 +10,7 @@ use Rattle.slots.specs.declared.Loaded.{Loaded}
 use Rattle.slots.specs.declared.Loaded.the-variants.{NoNode}
 use Rattle.slots.specs.declared.slot.Taken.{Taken}
 use Rattle.slots.specs.Records.{isNode}
-use Rattle.slots.specs.Regions.{slotsWords, generationAt, freeAt, recordAt, nodeAt, putGeneration, putFree}
+use Rattle.slots.specs.Regions.{slotsWords, generationAt, freeAt, recordAt, nodeAt, putGeneration, putFree, putOrder, noPosition}
 
 -- 01: "On freeing and on reuse a generation goes up by one, and from 4,294,967,295 to 0."
 abbrev pub up : ℕ → ℕ
@@ -50,8 +50,12 @@ module _ (n : ℕ) (w : List ℕ) (made free : ℕ) where
     free = free - 1;
   }
 
+  unfoldable pub takenGenerations : List ℕ
+  takenGenerations = putGeneration n w takenSlot takenGeneration
+
+  -- its order word is that of no position, whatever it held before
   unfoldable pub takenWords : List ℕ
-  takenWords = putGeneration n w takenSlot takenGeneration
+  takenWords = putOrder n takenGenerations takenSlot noPosition
 
   -- what a call that takes a slot asks: the lengths, a slot, and of the content what rules 1 and 2 say
   pub record CanTake : Type 0 where

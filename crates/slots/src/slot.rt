@@ -3,12 +3,13 @@ ghost use mathlib.Core.Path.{_≡_};
 ghost use Prim.Native.Nat.{_+_, _<_, _≤_};
 ghost use lib.ListN.{length};
 ghost use Rattle.slots.specs.Regions.{slotsWords, generationAt, putGeneration};
-ghost use Rattle.slots.specs.Slots.{up, resolves, resolved, hasSlot, taken, takenWords, CanTake, freedWords};
+ghost use Rattle.slots.specs.Slots.{up, resolves, resolved, hasSlot, taken, takenGenerations, takenWords, CanTake, freedWords};
 use crate::Loaded;
 use crate::NodeId;
 use crate::NodeSlot;
 use crate::region::generation_at;
 use crate::region::load_node;
+use crate::region::put_order;
 
 // A slot that was taken, with the counts after.
 pub struct Taken {
@@ -68,10 +69,10 @@ fn raise(words: &mut [u64], n: usize, slot: NodeSlot) -> u32
     generation
 }
 
-// A slot for a new node: the last freed, or a new one where none is free. Its record is left to the caller to store.
-pub fn alloc(words: &mut [u64], n: usize, made: usize, free: usize) -> Taken
+// The last freed slot with its generation raised, or a new one where none is free.
+fn take_slot(words: &mut [u64], n: usize, made: usize, free: usize) -> Taken
     requires { ⌜ CanTake n (now words) made free ⌝ }
-    ensures { λ r. ⌜ (r ≡ taken n (now (words .entry)) made free) × (now (words .exit) ≡ takenWords n (now (words .entry)) made free) ⌝ }
+    ensures { λ r. ⌜ (r ≡ taken n (now (words .entry)) made free) × (now (words .exit) ≡ takenGenerations n (now (words .entry)) made free) ⌝ }
 {
     if 0 < free {
         let top = free - 1;
@@ -95,6 +96,17 @@ pub fn alloc(words: &mut [u64], n: usize, made: usize, free: usize) -> Taken
         made: made + 1,
         free: 0,
     }
+}
+
+// A slot for a new node, which has no position in document order yet. Its record is left to the caller to store.
+pub fn alloc(words: &mut [u64], n: usize, made: usize, free: usize) -> Taken
+    requires { ⌜ CanTake n (now words) made free ⌝ }
+    ensures { λ r. ⌜ (r ≡ taken n (now (words .entry)) made free) × (now (words .exit) ≡ takenWords n (now (words .entry)) made free) ⌝ }
+{
+    let taken = take_slot(words, n, made, free);
+    let id = taken.id;
+    put_order(words, n, NodeSlot(id.index), 4294967295);
+    taken
 }
 
 // A slot is freed, and the length of the free stack returned. That there is room follows from rule 2: a live slot is not on the stack.
