@@ -48,8 +48,8 @@ pub record Allocated (d : Doc) (x g : ℕ) (k : Kind ℕ (Option ℕ)) (gens : L
   pub within : length gens ≤ d .limits .nodes
 
 -- the document with these columns
-abbrev pub with-columns : Doc → List ℕ → List ℕ → Kinds → List (Option ℕ) → (Which → List Block) → Pool → List (Option Name) → Doc
-with-columns d gens free kinds parents ranges p n = record {
+abbrev pub with-columns : Doc → List ℕ → List ℕ → Kinds → List (Option ℕ) → (Which → List Block) → List ℕ → Pool → List (Option Name) → Doc
+with-columns d gens free kinds parents ranges order p n = record {
   limits = d .limits;
   gens = gens;
   free = free;
@@ -57,7 +57,7 @@ with-columns d gens free kinds parents ranges p n = record {
   parents = parents;
   ranges = ranges;
   arenas = d .arenas;
-  order = d .order;
+  order = order;
   current = false;
   pool = p;
   names = n;
@@ -98,9 +98,9 @@ module _ (d : Doc) (t : Tree) (hs : ℕ → ℕ) (S : Sim d t hs) (k : Kind ℕ 
         genFits i lt (yes e) = rw (e, getD-snoc-same (d .gens) 0 0) (omega arith)
         genFits i lt (no n) = rw (getD-snoc-other (d .gens) 0 0 i n) (S .generations i (omega arith))
 
-    pub appended-free : d .free ≡ [] → (kinds : Kinds) (parents : List (Option ℕ)) (ranges : Which → List Block) (p : Pool) (n : List (Option Name))
-        → FreeSlots (with-columns d (d .gens ++ (0 ∷ [])) [] kinds parents ranges p n)
-    appended-free e kinds parents ranges p n = record { odd = λ i m. absurd (List·Memᴰ·not-nil m); all = all; once = tt }
+    pub appended-free : d .free ≡ [] → (kinds : Kinds) (parents : List (Option ℕ)) (ranges : Which → List Block) (order : List ℕ) (p : Pool) (n : List (Option Name))
+        → FreeSlots (with-columns d (d .gens ++ (0 ∷ [])) [] kinds parents ranges order p n)
+    appended-free e kinds parents ranges order p n = record { odd = λ i m. absurd (List·Memᴰ·not-nil m); all = all; once = tt }
       where
         all : (i : ℕ) → i < length (d .gens ++ (0 ∷ [])) → even (getD (d .gens ++ (0 ∷ [])) i 1) ≡ false → List·Memᴰ i []
         all i lt o = go (ℕ-discrete i (length (d .gens)))
@@ -149,9 +149,9 @@ module _ (d : Doc) (t : Tree) (hs : ℕ → ℕ) (S : Sim d t hs) (k : Kind ℕ 
         genFits i lt (yes q) = rw (q, getD-set-same (d .gens) j (up (generationAt d j)) 0 inside) (omega arith)
         genFits i lt (no n) = rw (getD-set-other (d .gens) j i (up (generationAt d j)) 0 n) (S .generations i lt)
 
-    pub reused-free : (kinds : Kinds) (parents : List (Option ℕ)) (ranges : Which → List Block) (p : Pool) (n : List (Option Name))
-        → FreeSlots (with-columns d (set (d .gens) j (up (generationAt d j))) l kinds parents ranges p n)
-    reused-free kinds parents ranges p n = record { odd = odd; all = all; once = once .1 }
+    pub reused-free : (kinds : Kinds) (parents : List (Option ℕ)) (ranges : Which → List Block) (order : List ℕ) (p : Pool) (n : List (Option Name))
+        → FreeSlots (with-columns d (set (d .gens) j (up (generationAt d j))) l kinds parents ranges order p n)
+    reused-free kinds parents ranges order p n = record { odd = odd; all = all; once = once .1 }
       where
         once : Distinct (j ∷ l)
         once = subst Distinct e (S .free .once)

@@ -9,7 +9,7 @@ use Prim.Native.Nat.{ℕ, suc, _<_}
 use native.Mathlib.Omega.{arith}
 use native.Mathlib.Decide.{ℕ-discrete}
 use borrow.Author.Tests.{ltb-true}
-use lib.ListN.{length, getD, set}
+use lib.ListN.{length, getD, set, length-set}
 use Rattle.words.proofs.Parts.{part-none}
 use Rattle.words.proofs.Tests.{and-both}
 use Rattle.blocks.specs.Arena.{Block, block}
@@ -19,7 +19,7 @@ use Rattle.slots.specs.Handles.{handleIndex, handleGeneration}
 use Rattle.texts.specs.Pool.{Pool}
 use Rattle.names.specs.Table.{Name}
 use Rattle.model.specs.Kinds.{Kind, root, Which, namesOf, textsOf}
-use Rattle.model.specs.Doc.{Doc, handleWord, generationAt, liveSlot, even, isSome, orElse, kindAt, nodeAt, parentAt, rangeIn, listAt, mapOption}
+use Rattle.model.specs.Doc.{Doc, noKey, handleWord, generationAt, liveSlot, even, isSome, orElse, kindAt, nodeAt, parentAt, rangeIn, listAt, mapOption}
 use Rattle.model.specs.Edits.{up, nextFrom, nextHandle, bornFrom, born}
 use Rattle.model.specs.Calls.{slotFitsFrom, slotFits}
 use Rattle.model.specs.Rules.{hasRange, blockIn, slotsHeld}
@@ -29,6 +29,7 @@ use Rattle.model.proofs.Sim.{FreeSlots, Sim, fields}
 use Rattle.model.proofs.Handles.{index-handleWord, generation-handleWord}
 use Rattle.model.proofs.Basics.{update-same, update-other, limit-nodes, live-even, odd-not-live}
 use Rattle.model.proofs.Fresh.{fresh-born}
+use Rattle.model.proofs.SimEdits.{set-fits}
 use Rattle.model.proofs.Shown.{shownBy}
 use Rattle.model.proofs.OneNode.{other-shown, pooled-changed}
 use Rattle.model.proofs.Stores.{Stores}
@@ -37,8 +38,9 @@ use Rattle.model.proofs.Allocated.{Kinds, Allocated, with-columns, appe
 -- the new node is birth n, in the slot of its handle, with no list yet
 module _ (d : Doc) (t : Tree) (hs : ℕ → ℕ) (S : Sim d t hs) (k : Kind ℕ (Option ℕ)) (p : Pool) (names : List (Option Name)) (kind : Kind Name (List ℕ))
     (K : Stores d k p names kind) (gens free : List ℕ) (kinds : Kinds) (parents : List (Option ℕ)) (ranges : Which → List Block)
+    (order : List ℕ) (sized : length order ≡ length (d .order)) (small : (i : ℕ) → getD order i 0 < 4294967296)
     (A : Allocated d (handleIndex (hs (t .births))) (handleGeneration (hs (t .births))) k gens kinds parents ranges)
-    (F : FreeSlots (with-columns d gens free kinds parents ranges p names)) where
+    (F : FreeSlots (with-columns d gens free kinds parents ranges order p names)) where
   abbrev n : ℕ
   n = t .births
 
@@ -46,7 +48,7 @@ module _ (d : Doc) (t : Tree) (hs : ℕ → ℕ) (S : Sim d t hs) (k : Kind ℕ 
   x = handleIndex (hs n)
 
   abbrev d′ : Doc
-  d′ = with-columns d gens free kinds parents ranges p names
+  d′ = with-columns d gens free kinds parents ranges order p names
 
   abbrev live′ : ℕ → Bool
   live′ = update (t .live) n true
@@ -97,7 +99,7 @@ module _ (d : Doc) (t : Tree) (hs : ℕ → ℕ) (S : Sim d t hs) (k : Kind ℕ 
           ranges = A .rangesLength;
           ids = S .shape .ids;
           caps = S .shape .caps;
-          order = S .shape .order;
+          order = sized ∙ S .shape .order;
           unused = λ w i c q h. unused w i c q h (ℕ-discrete i x);
         };
         limits = S .limits;
@@ -112,7 +114,7 @@ module _ (d : Doc) (t : Tree) (hs : ℕ → ℕ) (S : Sim d t hs) (k : Kind ℕ 
         };
         generations = A .genFits;
         nodes = λ i e. nodes i e (ℕ-discrete i x);
-        orderFits = S .orderFits;
+        orderFits = small;
         capsFit = S .capsFit;
         free = F;
         blocks = blocks;
@@ -233,11 +235,13 @@ sim-born d t hs S k p names kind K room told = go (d .free) refl room told
     go [] e r h =
         let lt : length (d .gens) < d .limits .nodes = ltb-true (length (d .gens)) (d .limits .nodes) r in
         sim-made d t hs S k p names kind K (d .gens ++ (0 ∷ [])) [] (d .kinds ++ (some k ∷ [])) (d .parents ++ (none ∷ [])) (λ w. d .ranges w ++ (block 0 0 ∷ []))
+        (set (d .order) (length (d .gens)) noKey) (length-set (d .order) (length (d .gens)) noKey) (set-fits (d .order) (length (d .gens)) noKey (omega arith) (S .orderFits))
         (at-handle (length (d .gens)) 0 (hs (t .births)) h (omega (arith, limit-nodes (d .limits) (S .limits))) (appended d t hs S k lt))
-        (appended-free d t hs S k lt e (d .kinds ++ (some k ∷ [])) (d .parents ++ (none ∷ [])) (λ w. d .ranges w ++ (block 0 0 ∷ [])) p names)
+        (appended-free d t hs S k lt e (d .kinds ++ (some k ∷ [])) (d .parents ++ (none ∷ [])) (λ w. d .ranges w ++ (block 0 0 ∷ [])) (set (d .order) (length (d .gens)) noKey) p names)
     go (j ∷ l) e r h =
         let g : ℕ = up (generationAt d j) in
         let lt : j < length (d .gens) = inside d t hs S k j l e in
         sim-made d t hs S k p names kind K (set (d .gens) j g) l (set (d .kinds) j (some k)) (set (d .parents) j none) (λ w. set (d .ranges w) j (block 0 0))
+        (set (d .order) j noKey) (length-set (d .order) j noKey) (set-fits (d .order) j noKey (omega arith) (S .orderFits))
         (at-handle j g (hs (t .births)) h (omega (arith, limit-nodes (d .limits) (S .limits), S .within .slots)) (reused d t hs S k j l e))
-        (reused-free d t hs S k j l e (set (d .kinds) j (some k)) (set (d .parents) j none) (λ w. set (d .ranges w) j (block 0 0)) p names)
+        (reused-free d t hs S k j l e (set (d .kinds) j (some k)) (set (d .parents) j none) (λ w. set (d .ranges w) j (block 0 0)) (set (d .order) j noKey) p names)

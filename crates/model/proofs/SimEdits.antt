@@ -4,15 +4,17 @@ use mathlib.Core.Path.{_≡_, refl, sym, ap, _∙_, subst}
 use mathlib.Core.Bool.{Bool, true, false, cond, false≢true}
 use mathlib.Core.Option.{Option, none, some}
 use mathlib.Core.List.{List, map}
-use Prim.Native.Nat.{ℕ, _≤_, _<_}
+use Prim.Native.Nat.{ℕ, _+_, _-_, _≤_, _<_}
 use native.Mathlib.Omega.{arith}
 use native.Mathlib.Decide.{ℕ-discrete, decLt}
 use lib.Dec.{eqb}
-use lib.ListN.{length, getD, set, length-set}
+use lib.ListN.{length, getD, set, replicate, length-set, length-replicate, getD-replicate}
 use lib.Seq.{getD-set-same, getD-set-other, set-out}
+use Rattle.words.specs.Parts.{part}
 use Rattle.words.specs.Lists.{insertAt, without, indexOf}
+use Rattle.words.proofs.Parts.{getD-part, part-put-same, getD-put-before, getD-put-after}
 use Rattle.words.proofs.Lists.{map-insertAt, map-without}
-use Rattle.blocks.specs.Arena.{Arena, Block, block, Edit, capOf, listOf, movedCapacity, hasRoom, inserted, removed}
+use Rattle.blocks.specs.Arena.{Arena, Block, block, Edit, capOf, listOf, movedCapacity, unrecorded, hasRoom, inserted, removed}
 use Rattle.blocks.specs.Rule.{Shaped, Inside, Edited}
 use Rattle.blocks.proofs.Edits.{inserted-in-place, inserted-moved, removed-there, removed-absent, block-fits}
 use Rattle.blocks.proofs.Insertion.{insert-promise}
@@ -42,6 +44,25 @@ set-fits l j v hv h i = go (ℕ-discrete i j) (decLt j (length l))
     go (yes e) (no k) = rw (set-out l j v (omega arith)) (h i)
     go (no n) k = rw (getD-set-other l j i v 0 n) (h i)
 
+-- words that are cleared are
+cleared-fits : (l : List ℕ) (s n : ℕ) → s ≤ length l → ((i : ℕ) → getD l i 0 < 4294967296) → (i : ℕ) → getD (unrecorded l s n) i 0 < 4294967296
+cleared-fits l s n b h i = go (decLt i s) (decLt i (s + n))
+  where
+    zeros : length (replicate {A = ℕ} n 0) ≡ n
+    zeros = length-replicate n 0
+
+    go : Dec (i < s) → Dec (i < s + n) → getD (unrecorded l s n) i 0 < 4294967296
+    go (yes k) m = rw (getD-put-before l s (replicate n 0) i 0 k b) (h i)
+    go (no k) (yes m) =
+        let e : i ≡ s + (i - s) = omega arith in
+        let q : getD (unrecorded l s n) i 0 ≡ 0 =
+        ap (λ (j : ℕ). getD (unrecorded l s n) j 0) e ∙ sym (getD-part (unrecorded l s n) s n (i - s) 0 (omega arith))
+        ∙ ap (λ (k : ℕ). getD (part s k (unrecorded l s n)) (i - s) 0) (sym zeros)
+        ∙ ap (λ (r : List ℕ). getD r (i - s) 0) (part-put-same l s (replicate n 0) b)
+        ∙ getD-replicate n (i - s) 0 0 (omega arith) in
+        omega arith
+    go (no k) (no m) = rw (getD-put-after l s (replicate n 0) i 0 (omega (arith, zeros)) b) (h i)
+
 module _ (a : Arena) (b : Block) (sh : Shaped a) (inb : Inside a b) (small : length (a .ids) ≤ 262144)
     (fits : (i : ℕ) → getD (a .caps) i 0 < 4294967296) where
   -- a moved block's capacity is at most twice a length that is within the limit
@@ -52,8 +73,9 @@ module _ (a : Arena) (b : Block) (sh : Shaped a) (inb : Inside a b) (small : len
       go (yes h) = rw (inserted-in-place a b k id h) (fits i)
       go (no h) =
           rw (inserted-moved a b k id (omega arith))
-          (set-fits (set (a .caps) (b .start) 0) (a .used) (movedCapacity (b .len)) (omega (arith, block-fits a b sh inb))
-          (set-fits (a .caps) (b .start) 0 (omega arith) fits) i)
+          (set-fits (unrecorded (set (a .caps) (b .start) 0) (a .used) (movedCapacity (b .len))) (a .used) (movedCapacity (b .len)) (omega (arith, block-fits a b sh inb))
+          (cleared-fits (set (a .caps) (b .start) 0) (a .used) (movedCapacity (b .len)) (simp length-set (omega (arith, sh .fits, sh .paired)))
+          (set-fits (a .caps) (b .start) 0 (omega arith) fits)) i)
 
   -- a removal's record is at most the capacity that lay inside the arena
   removed-fits : (id i : ℕ) → getD (removed a b id .arena .caps) i 0 < 4294967296

@@ -83,7 +83,7 @@ nextFrom (i ∷ l) d = handleWord i (up (generationAt d i))
 abbrev pub nextHandle : Doc → ℕ
 nextHandle d = nextFrom (d .free) d
 
--- a new node in no list yet, all its blocks (0, 0), with the pool and the names that hold what it shows
+-- a new node in no list yet, all its blocks (0, 0) and without a key, with the pool and the names that hold what it shows
 abbrev pub bornFrom : List ℕ → Doc → Kind ℕ (Option ℕ) → Pool → List (Option Name) → Doc
 bornFrom [] d k p n = record {
   limits = d .limits;
@@ -93,7 +93,7 @@ bornFrom [] d k p n = record {
   parents = d .parents ++ (none ∷ []);
   ranges = λ w. d .ranges w ++ (block 0 0 ∷ []);
   arenas = d .arenas;
-  order = d .order;
+  order = set (d .order) (length (d .gens)) noKey;
   current = false;
   pool = p;
   names = n;
@@ -108,7 +108,7 @@ bornFrom (i ∷ l) d k p n = record {
   parents = set (d .parents) i none;
   ranges = λ w. set (d .ranges w) i (block 0 0);
   arenas = d .arenas;
-  order = d .order;
+  order = set (d .order) i noKey;
   current = false;
   pool = p;
   names = n;
