@@ -14,11 +14,11 @@ use Rattle.words.proofs.Parts.{put-put, put-back}
 use Rattle.words.proofs.Lists.{length-tabulate}
 use Rattle.slots.specs.Handles.{wordOf}
 use Rattle.slots.specs.Records.{recordOf}
-use Rattle.slots.specs.Regions.{slotsWords, generationAt, freeAt, putGeneration, putRecord}
+use Rattle.slots.specs.Regions.{slotsWords, generationAt, freeAt, putGeneration, putRecord, putOrder, noPosition}
 use Rattle.slots.specs.Slots.{up, hasSlot, taken, takenWords, CanTake}
 use Rattle.slots.specs.declared.Node.{Node}
 use Rattle.slots.specs.declared.slot.Taken.{Taken}
-use Rattle.slots.proofs.Regions.{length-putGeneration}
+use Rattle.slots.proofs.Regions.{length-putGeneration, length-putOrder}
 use Rattle.slots.proofs.Stacks.{takenWords-put, taken-reused, taken-new}
 use Rattle.model.specs.Doc.{Doc}
 use Rattle.model.specs.Edits.{nextFrom, nextHandle, bornFrom, born}
@@ -107,13 +107,19 @@ module _ (d : Document) (mem : List ℕ) (c : CanBear d mem) where
 
   -- ---- the part of the slots, lent and returned
 
+  size-taken : length (takenWords n w M F) ≡ 15 * n
+  size-taken =
+      let i = taken n w M F .id in
+      ap length (takenWords-put n w M F) ∙ length-putOrder n (putGeneration n w (i .index) (i .generation)) (i .index) noPosition
+      ∙ length-putGeneration n w (i .index) (i .generation) ∙ length-slotsPart d mem (c .memory)
+
   taken-stored : (ys : List ℕ) → ys ≡ takenWords (d .limits .nodes) (take (15 * d .limits .nodes - 0) (drop 0 mem)) (slotsMade d) (slotsFree d)
       → ys ++ drop (15 * d .limits .nodes - 0) (drop 0 mem) ≡ putSlots (takenWords (d .limits .nodes) (slotsPart d mem) (slotsMade d) (slotsFree d)) mem
   unfolding putSlots
   taken-stored ys e =
       let q : ys ≡ takenWords n w M F = e ∙ ap (λ (x : List ℕ). takenWords n x M F) (slots-lent d mem) in
       let size : length ys ≡ 15 * n - 0 =
-      ap length (q ∙ takenWords-put n w M F) ∙ length-putGeneration n w (taken n w M F .id .index) (taken n w M F .id .generation) ∙ omega (arith, length-slotsPart d mem (c .memory)) in
+      ap length q ∙ omega (arith, size-taken) in
       put-back mem 0 ys (15 * n - 0) size ∙ ap (λ (v : List ℕ). put 0 v mem) q
 
   module _ (made free : ℕ) (em : made ≡ slotsMade d) (ef : free ≡ slotsFree d) where
@@ -136,9 +142,6 @@ module _ (d : Document) (mem : List ℕ) (c : CanBear d mem) where
   pub taken-next : (t : Taken) → t ≡ taken (d .limits .nodes) (slotsPart d mem) (slotsMade d) (slotsFree d) → wordOf (t .id) ≡ nextHandle (decode d mem)
   taken-next t e = ap (λ (x : Taken). wordOf (x .id)) e ∙ handle-next
 
-  size-taken : length (takenWords n w M F) ≡ 15 * n
-  size-taken = ap length (takenWords-put n w M F) ∙ length-putGeneration n w (taken n w M F .id .index) (taken n w M F .id .generation) ∙ length-slotsPart d mem (c .memory)
-
   module _ (mem₁ : List ℕ) (e₁ : mem₁ ≡ putSlots (takenWords (d .limits .nodes) (slotsPart d mem) (slotsMade d) (slotsFree d)) mem) where
     pub taken-memory : memoryOk d (length mem₁) ≡ true
     taken-memory = ap (memoryOk d) (ap length e₁ ∙ length-putSlots d mem (takenWords n w M F) (c .memory) size-taken) ∙ c .memory
@@ -158,7 +161,7 @@ module _ (d : Document) (mem : List ℕ) (c : CanBear d mem) where
       unfolding putNode putSlots
       node-words mem₂ e₂ =
           let tw = takenWords n w M F in
-          let q : slotsPart d (putSlots tw mem) ≡ putGeneration n w (T .id .index) (T .id .generation) =
+          let q : slotsPart d (putSlots tw mem) ≡ putOrder n (putGeneration n w (T .id .index) (T .id .generation)) (T .id .index) noPosition =
           slotsPart-putSlots d mem tw (c .memory) size-taken ∙ takenWords-put n w M F in
           e₂
           ∙ ap (λ (x : List ℕ). putNode d x (T .id .index) m) e₁

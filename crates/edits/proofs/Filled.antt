@@ -1,4 +1,4 @@
--- A slot's generation and record are written, and the document then is one with a new node.
+-- A slot's generation, its order word and its record are written, and the document then is one with a new node.
 -- Assumes nothing.
 use mathlib.Core.Path.{_≡_, refl, sym, ap, _∙_}
 use mathlib.Core.Bool.{Bool, true, false}
@@ -9,15 +9,15 @@ use native.Mathlib.Omega.{arith}
 use native.Mathlib.Nat.{min-eq-left}
 use lib.ListN.{length, set}
 use Rattle.words.specs.Lists.{tabulate}
-use Rattle.words.proofs.Lists.{tabulate-same, tabulate-set}
+use Rattle.words.proofs.Lists.{length-tabulate, tabulate-same, tabulate-set}
 use Rattle.blocks.specs.Arena.{block, arenaOf}
 use Rattle.slots.specs.Records.{recordOf}
-use Rattle.slots.specs.Regions.{slotsWords, generationAt, freeAt, orderAt, putGeneration, putRecord}
+use Rattle.slots.specs.Regions.{slotsWords, generationAt, freeAt, orderAt, putGeneration, putRecord, putOrder, noPosition}
 use Rattle.slots.specs.declared.Node.{Node}
 use Rattle.slots.specs.declared.Loaded.{Loaded}
 use Rattle.slots.specs.declared.Loaded.the-variants.{Found}
 use Rattle.slots.proofs.Records.{node-back}
-use Rattle.slots.proofs.Regions.{length-putGeneration, length-putRecord, generationAt-putGeneration, generationAt-putGeneration-other, freeAt-putGeneration, recordAt-putGeneration, orderAt-putGeneration, recordAt-putRecord-other, nodeAt-recordAt, generationAt-putRecord, freeAt-putRecord, orderAt-putRecord}
+use Rattle.slots.proofs.Regions.{length-putGeneration, length-putRecord, generationAt-putGeneration, generationAt-putGeneration-other, freeAt-putGeneration, recordAt-putGeneration, orderAt-putGeneration, recordAt-putRecord-other, nodeAt-recordAt, generationAt-putRecord, freeAt-putRecord, orderAt-putRecord, length-putOrder, generationAt-putOrder, freeAt-putOrder, recordAt-putOrder, orderAt-putOrder, orderAt-putOrder-other}
 use Rattle.texts.specs.Pool.{Pool}
 use Rattle.names.specs.Table.{Name}
 use Rattle.model.specs.Kinds.{Which, children, attributes, namespaces}
@@ -41,42 +41,64 @@ tabulate-more {A} f g k e h q =
     let j : k + 1 ≡ suc k = omega arith in
     ap (tabulate f) j ∙ ap (λ (l : List A). l ++ (f k ∷ [])) (tabulate-same f g k h) ∙ ap (λ (x : A). tabulate g k ++ (x ∷ [])) q
 
--- the words of a slot filled: its generation, then its record
+-- the words of a slot filled: its generation, no position in document order, then its record
 abbrev pub filledWords : ℕ → List ℕ → ℕ → ℕ → Node → List ℕ
-filledWords n w s g m = putRecord n (putGeneration n w s g) s (recordOf m)
+filledWords n w s g m = putRecord n (putOrder n (putGeneration n w s g) s noPosition) s (recordOf m)
 
 module _ (n : ℕ) (w : List ℕ) (long : slotsWords n ≤ length w) (s g : ℕ) (sb : s < n) (gb : g < 4294967296) (m : Node) (new : Newborn m) where
+  abbrev r : List ℕ
+  r = putGeneration n w s g
+
   abbrev v : List ℕ
-  v = putGeneration n w s g
+  v = putOrder n r s noPosition
 
   abbrev u : List ℕ
   u = filledWords n w s g m
 
+  long-r : slotsWords n ≤ length r
+  long-r = omega (arith, length-putGeneration n w s g)
+
   long-v : slotsWords n ≤ length v
-  long-v = omega (arith, length-putGeneration n w s g)
+  long-v = omega (arith, long-r, length-putOrder n r s noPosition)
 
   pub length-filled : length (filledWords n w s g m) ≡ length w
-  length-filled = length-putRecord n v long-v s (recordOf m) sb ∙ length-putGeneration n w s g
+  length-filled = length-putRecord n v long-v s (recordOf m) sb ∙ length-putOrder n r s noPosition ∙ length-putGeneration n w s g
+
+  generation-same : (t : ℕ) → t < n → generationAt n u t ≡ generationAt n r t
+  generation-same t b = generationAt-putRecord n v long-v s (recordOf m) sb t b ∙ generationAt-putOrder n r long-r s noPosition sb t b
 
   generation-here : generationAt n u s ≡ g
-  generation-here = generationAt-putRecord n v long-v s (recordOf m) sb s sb ∙ generationAt-putGeneration n w long s g sb
+  generation-here = generation-same s sb ∙ generationAt-putGeneration n w long s g sb
 
   generation-other : (t : ℕ) → t < n → (t ≡ s → ⊥) → generationAt n u t ≡ generationAt n w t
-  generation-other t b ne = generationAt-putRecord n v long-v s (recordOf m) sb t b ∙ generationAt-putGeneration-other n w long s g sb t ne
+  generation-other t b ne = generation-same t b ∙ generationAt-putGeneration-other n w long s g sb t ne
 
   free-same : (i : ℕ) → i < n → freeAt n u i ≡ freeAt n w i
-  free-same i b = freeAt-putRecord n v long-v s (recordOf m) sb i b ∙ freeAt-putGeneration n w long s g sb i
+  free-same i b =
+      freeAt-putRecord n v long-v s (recordOf m) sb i b ∙ freeAt-putOrder n r long-r s noPosition sb i b ∙ freeAt-putGeneration n w long s g sb i
 
-  order-same : (t : ℕ) → orderAt n u t ≡ orderAt n w t
-  order-same t = orderAt-putRecord n v long-v s (recordOf m) sb t ∙ orderAt-putGeneration n w long s g sb t
+  order-here : orderAt n u s ≡ noPosition
+  order-here = orderAt-putRecord n v long-v s (recordOf m) sb s ∙ orderAt-putOrder n r long-r s noPosition sb
+
+  order-other : (t : ℕ) → (t ≡ s → ⊥) → orderAt n u t ≡ orderAt n w t
+  order-other t ne =
+      orderAt-putRecord n v long-v s (recordOf m) sb t ∙ orderAt-putOrder-other n r long-r s noPosition sb t ne ∙ orderAt-putGeneration n w long s g sb t
+
+  pub order-filled : tabulate (orderAt n (filledWords n w s g m)) n ≡ set (tabulate (orderAt n w) n) s noPosition
+  order-filled = tabulate-set (orderAt n u) (orderAt n w) n s noPosition sb (λ t k ne. order-other t ne) order-here
 
   filled-here : loadedAt n u s ≡ Found m
   filled-here =
-      loaded-here n v long-v s (recordOf m) sb (Found m) (omega (arith, generationAt-putGeneration n w long s g sb)) (node-back m (new .fits))
+      loaded-here n v long-v s (recordOf m) sb (Found m)
+      (omega (arith, generationAt-putOrder n r long-r s noPosition sb s sb, generationAt-putGeneration n w long s g sb)) (node-back m (new .fits))
 
   filled-other : (t : ℕ) → t < n → (t ≡ s → ⊥) → loadedAt n u t ≡ loadedAt n w t
   filled-other t b ne =
-      rw (generation-other t b ne, nodeAt-recordAt n u w t t (recordAt-putRecord-other n v long-v s (recordOf m) sb t ne ∙ recordAt-putGeneration n w long s g sb t))
+      rw (
+        generation-other t b ne,
+        nodeAt-recordAt n u w t t
+            (recordAt-putRecord-other n v long-v s (recordOf m) sb t ne ∙ recordAt-putOrder n r long-r s noPosition sb t b ∙ recordAt-putGeneration n w long s g sb t),
+      )
 
   -- a column of what is loaded: one entry changed, or one more
   module _ {A : Type 0} (f : Loaded → A) (e : A) (q : f (Found m) ≡ e) where
@@ -149,7 +171,7 @@ module _ (p : Pool) (names : List (Option Name)) (lengths : Bool) (d : Document)
           parents = (ap (tabulate (λ t. parentLoaded (loadedAt N U t))) em ∙ column-changed N W long-w s g sb gb m new parentLoaded none (new .orphan) made made-in tb) i;
           ranges = λ a. (ap (tabulate (λ t. rangeLoaded a (loadedAt N U t))) em ∙ column-changed N W long-w s g sb gb m new (rangeLoaded a) (block 0 0) (new .bare a) made made-in tb) i;
           arenas = λ a. arenaOf (entriesOf (d .limits) a) (min (used-same made free a i) (entriesOf (d .limits) a)) (arenaPart d a mem);
-          order = tabulate-same (orderAt N U) (orderAt N W) N (λ t k. order-same N W long-w s g sb gb m new t) i;
+          order = order-filled N W long-w s g sb gb m new i;
           current = false;
           pool = p;
           names = names;
@@ -177,7 +199,7 @@ module _ (p : Pool) (names : List (Option Name)) (lengths : Bool) (d : Document)
           parents = (ap (tabulate (λ t. parentLoaded (loadedAt N U t))) em ∙ column-more N W long-w s g sb gb m new parentLoaded none (new .orphan) made e) i;
           ranges = λ a. (ap (tabulate (λ t. rangeLoaded a (loadedAt N U t))) em ∙ column-more N W long-w s g sb gb m new (rangeLoaded a) (block 0 0) (new .bare a) made e) i;
           arenas = λ a. arenaOf (entriesOf (d .limits) a) (min (used-same (made + 1) 0 a i) (entriesOf (d .limits) a)) (arenaPart d a mem);
-          order = tabulate-same (orderAt N U) (orderAt N W) N (λ t k. order-same N W long-w s g sb gb m new t) i;
+          order = (order-filled N W long-w s g sb gb m new ∙ ap (λ (k : ℕ). set (D .order) k noPosition) (e ∙ sym (length-tabulate (generationAt N W) made))) i;
           current = false;
           pool = p;
           names = names;
