@@ -125,20 +125,6 @@ impl Memory {
         self.reader().map_or(0, |reader| size(reader.limits.scratch_words()))
     }
 
-    /// Whether a word that is not in use yet, and that a call may take into use as it stands, is too wide for its field: the order words of slots
-    /// that were not made, and the capacities beyond an arena's length.
-    #[cfg(feature = "port")]
-    pub(crate) fn has_wide_words_to_come(&self) -> bool {
-        let Some(reader) = self.reader() else { return false };
-        let nodes = size(reader.limits.nodes);
-        let order = &reader.part(reader.regions.order, nodes)[reader.count(0)..];
-        let capacities = (0..3).flat_map(|arena| {
-            let all = reader.part(reader.regions.capacities[arena], size(reader.limits.entries[arena]));
-            &all[reader.count(2 + arena)..]
-        });
-        order.iter().chain(capacities).any(|word| !is_narrow(*word))
-    }
-
     /// Start and length of each run of words in use.
     #[cfg(feature = "port")]
     pub(crate) fn parts_in_use(&self) -> Vec<(usize, usize)> {
