@@ -1,10 +1,10 @@
 -- What the functions that test and count the entries cite, over plain values.
 -- Assumes nothing.
 use mathlib.Core.Path.{_≡_, refl, sym, ap, _∙_, subst}
-use mathlib.Core.Bool.{Bool, true, false, not, _&&_, cond, false≢true}
-use mathlib.Core.Option.{Option}
+use mathlib.Core.Bool.{Bool, true, false, not, cond, false≢true}
+use mathlib.Core.Option.{Option, none, some}
 use mathlib.Core.List.{List, [], _∷_, _++_, map}
-use Prim.Native.Nat.{ℕ, _+_, _%_, _≤_, _<_, max}
+use Prim.Native.Nat.{ℕ, _+_, _*_, _%_, _≤_, _<_, max}
 use native.Mathlib.Decide.{ℕ-discrete}
 use native.Mathlib.Omega.{arith}
 use lib.ListN.{length, getD, set, replicate}
@@ -12,101 +12,47 @@ use lib.Dec.{eqb}
 use borrow.Author.Tests.{ne-eqb}
 use Rattle.words.specs.Parts.{part}
 use Rattle.words.specs.Lists.{all, allBelow}
-use Rattle.words.proofs.Parts.{length-part, getD-part}
-use Rattle.blocks.specs.Arena.{listOf, capOf}
-use Rattle.slots.specs.Handles.{handleIndex, wordOf}
-use Rattle.slots.specs.declared.NodeId.{NodeId}
-use Rattle.slots.specs.declared.Range.{Range}
-use Rattle.slots.specs.declared.Parent.{Parent}
-use Rattle.slots.specs.declared.Parent.the-variants as parent
-use Rattle.model.specs.Kinds.{Kind, root, element, attribute, text, comment, namespace, instruction, Which, children, attributes, namespaces, sameWhich, whichOf}
-use Rattle.model.specs.Doc.{Doc, liveSlot, handleAt, resolves, kindIn, parentIn, rangeIn, anyOption}
+use Rattle.words.proofs.Parts.{length-part, getD-part, take-part, part-part}
+use Rattle.blocks.specs.Arena.{block, capOf}
+use Rattle.slots.specs.Handles.{handleIndex}
+use Rattle.model.specs.Kinds.{Which, children, attributes, namespaces}
+use Rattle.model.specs.Doc.{Doc, liveSlot, handleAt, parentIn, rangeIn, isNone}
 use Rattle.model.specs.Rules.{blockIn, Blocks}
 use Rattle.model.specs.RulesTest.{implies, allOption, allWhich, parentsHold, entriesHold, blocksHold}
 use Rattle.model.proofs.RulesTestEntries.{parents-of-test}
 use Rattle.model.proofs.RulesTestBlocks.{blocks-of-test}
 use Rattle.memory.specs.declared.layout.Document.{Document}
-use Rattle.memory.specs.Layout.{entriesOf, memoryOk}
-use Rattle.memory.specs.Decode.{handleOf, blockOf, slotsMade, arenaIn}
+use Rattle.memory.specs.Layout.{entriesOf, limitsOf, arenaAt, memoryOk}
+use Rattle.memory.specs.Decode.{slotsMade, arenaIn}
 use Rattle.memory.proofs.Columns as columns
 use Rattle.memory.proofs.Limits.{sizes}
 use Rattle.memory.proofs.Shaped.{length-ids, shape}
-use Rattle.entries.specs.Nodes.{noTexts, decodeNodes, kindNumber}
+use Rattle.entries.specs.Nodes.{noTexts, decodeNodes, wordsHold, recordWord, blockAt}
 use Rattle.entries.specs.Marks.{raised, Counted, Pass, Adds, gathered}
-use Rattle.entries.specs.Entering.{listNumber, kindList, enters, entriesIn, entriesEnter, slotsEntered, slotsListed, markedOnce}
-use Rattle.entries.proofs.Lists.{gathered-map, allBelow-all}
+use Rattle.entries.specs.Entering.{listNumber, enters, entriesIn, entriesEnter, slotsEntered, listsEnter, slotsNamed, wordsEnter, markedOnce}
+use Rattle.entries.proofs.Lists.{gathered-map, allBelow-all, all-same}
 use Rattle.entries.proofs.Marks.{counted-none, adds-none, adds-then, adds-one, passed, refused, Passing, passing-next, passing-not, passing-all}
-use Rattle.entries.proofs.Entering.{entry-below, entries-no, entries-yes}
-
--- ---- the tests of one entry
-
-pub parent-is : (p : Parent) (id : NodeId) (owner r : ℕ) → p ≡ parent.Of id → r ≡ wordOf id → eqb owner r ≡ anyOption (eqb owner) (handleOf p)
-parent-is p id owner r e q = rw (e, q)
-
-pub list-is : (v w : Which) (a b : ℕ) → a ≡ listNumber v → b ≡ listNumber w → eqb a b ≡ sameWhich v w
-list-is v w a b e q = rw (e, q) (go v w)
-  where
-    go : (v w : Which) → eqb (listNumber v) (listNumber w) ≡ sameWhich v w
-    go children children = refl
-    go children attributes = refl
-    go children namespaces = refl
-    go attributes children = refl
-    go attributes attributes = refl
-    go attributes namespaces = refl
-    go namespaces children = refl
-    go namespaces attributes = refl
-    go namespaces namespaces = refl
-
-list-kind : (k : Kind ℕ (Option ℕ)) → kindList (kindNumber k) ≡ listNumber (whichOf k)
-unfolding kindList
-list-kind root = refl
-list-kind (element n) = refl
-list-kind (attribute n v) = refl
-list-kind (text t) = refl
-list-kind (comment t) = refl
-list-kind (namespace p u) = refl
-list-kind (instruction t d) = refl
-
-pub list-of-child : (kind : ℕ) → (kind ≡ 2 → ⊥) → (kind ≡ 5 → ⊥) → 0 ≡ kindList kind
-unfolding kindList
-list-of-child kind a n = sym (rw (ne-eqb kind 2 a, ne-eqb kind 5 n))
-
-pub kind-in-list : (k : Kind ℕ (Option ℕ)) (w : Which) (kind a b : ℕ) → kind ≡ kindNumber k → a ≡ kindList kind → b ≡ listNumber w → eqb a b ≡ sameWhich (whichOf k) w
-kind-in-list k w kind a b e q h = list-is (whichOf k) w a b (q ∙ ap kindList e ∙ list-kind k) h
-
-module _ (D : Doc) (w : Which) (owner entry : ℕ) (t : Bool) (e : t ≡ resolves D entry) where
-  pub entry-current : t ≡ true → (a b r : Bool) → a ≡ anyOption (eqb owner) (parentIn D (entry % 4294967296))
-      → b ≡ sameWhich (whichOf (kindIn D (entry % 4294967296))) w → r ≡ (a && b) → r ≡ enters D w owner entry
-  unfolding enters
-  entry-current y a b r ea eb er =
-      let res : resolves D entry ≡ true = sym e ∙ y in
-      er ∙ rw (ea, eb) (sym (rw res))
-
-  pub entry-stale : t ≡ false → false ≡ enters D w owner entry
-  unfolding enters
-  entry-stale n =
-      let res : resolves D entry ≡ false = sym e ∙ n in
-      sym (rw res)
+use Rattle.entries.proofs.Entering.{entries-no, entries-yes}
+use Rattle.entries.proofs.Words.{live-below, record-word, block-word, block-at-below}
+use Rattle.entries.proofs.EntryWords.{entry-below, words-enter}
 
 -- ---- an entry is counted
 
-module _ (d : Document) (mem : List ℕ) (w : Which) (owner entry x : ℕ) (t : Bool) (marks : List ℕ)
-    (e : entry ≡ x) (q : t ≡ enters (decodeNodes d mem) w owner entry) where
-  pub entry-marked : slotsMade d ≤ length marks → t ≡ true → entry % 4294967296 < length marks
+module _ (nodes made : ℕ) (mem : List ℕ) (list owner entry : ℕ) (t : Bool) (marks : List ℕ) (q : t ≡ wordsEnter nodes made mem list owner entry) where
+  pub entry-marked : made ≤ length marks → t ≡ true → entry % 4294967296 < length marks
   entry-marked h y =
-      let b = entry-below (decodeNodes d mem) w owner entry (sym q ∙ y) in
-      omega (arith, columns.length-gens noTexts [] true d mem)
+      let b = entry-below nodes made mem list owner entry (sym q ∙ y) in
+      omega arith
 
-  pub entry-counted : slotsMade d ≤ length marks → t ≡ true → (after : List ℕ) → after ≡ set marks (entry % 4294967296) (raised (getD marks (entry % 4294967296) 0))
-      → Pass (slotsMade d) (enters (decodeNodes d mem) w owner x) (handleIndex x ∷ []) marks after true
-  entry-counted h y after a =
-      rw (← e) (record {
-        answer = sym y ∙ q;
-        counts = λ _. subst (λ (l : List ℕ). Adds (slotsMade d) (handleIndex entry ∷ []) marks l) (sym a) (adds-one (slotsMade d) marks (handleIndex entry) (entry-marked h y));
-      })
+  pub entry-counted : made ≤ length marks → t ≡ true → (after : List ℕ) → after ≡ set marks (entry % 4294967296) (raised (getD marks (entry % 4294967296) 0))
+      → Pass made (wordsEnter nodes made mem list owner entry) (handleIndex entry ∷ []) marks after true
+  entry-counted h y after a = record {
+    answer = sym y ∙ q;
+    counts = λ _. subst (λ (l : List ℕ). Adds made (handleIndex entry ∷ []) marks l) (sym a) (adds-one made marks (handleIndex entry) (entry-marked h y));
+  }
 
-  pub entry-refused : t ≡ false → Pass (slotsMade d) (enters (decodeNodes d mem) w owner x) (handleIndex x ∷ []) marks marks false
-  entry-refused n = rw (← e) (record { answer = sym n ∙ q; counts = λ z. absurd (false≢true z) })
+  pub entry-refused : t ≡ false → Pass made (wordsEnter nodes made mem list owner entry) (handleIndex entry ∷ []) marks marks false
+  entry-refused n = record { answer = sym n ∙ q; counts = λ z. absurd (false≢true z) }
 
 -- ---- the entries of a block, one by one
 
@@ -163,71 +109,104 @@ block-inside D B w s l =
         go (yes e) = omega arith
         go (no e) = rw (ne-eqb n 0 e) (omega arith)
 
-module _ (d : Document) (mem : List ℕ) (w : Which) (s : ℕ) (before : List ℕ) (t : Bool) (f : t ≡ liveSlot (decodeNodes d mem) s) where
-  module _ (y : t ≡ true) (r : Range) (e : blockOf r ≡ rangeIn (decodeNodes d mem) w s) where
-    pub list-inside : memoryOk d (length mem) ≡ true → blocksHold (decodeNodes d mem) ≡ true → r .start + r .len ≤ entriesOf (d .limits) w
-    list-inside ok h =
-        let i = block-inside (decodeNodes d mem) (blocks-of-test (decodeNodes d mem) (shape noTexts [] true d mem ok) h) w s (sym f ∙ y) in
-        omega (arith, rw (sym e) at i, length-ids d mem ok w)
+module _ (d : Document) (mem : List ℕ) (s : ℕ) (ok : memoryOk d (length mem) ≡ true) (l : liveSlot (decodeNodes d mem) s ≡ true) (a : Which) where
+  abbrev n : ℕ
+  n = d .limits .nodes
 
-    entries-here : entriesIn (decodeNodes d mem) w s ≡ listOf (arenaIn d w mem) (blockOf r)
+  abbrev D : Doc
+  D = decodeNodes d mem
+
+  -- where its block stands in the memory
+  abbrev at : ℕ
+  at = n * 2 + s * 12 + blockAt a
+
+  block-read : block (getD mem at 0) (getD mem (at + 1) 0) ≡ rangeIn D a s
+  block-read =
+      let b = block-at-below a in
+      let e : n * 2 + s * 12 + (blockAt a + 1) ≡ at + 1 = omega arith in
+      let p = record-word d mem s (blockAt a) (live-below d mem s l) (omega arith) in
+      let q : getD mem (at + 1) 0 ≡ recordWord d mem s (blockAt a + 1) =
+      ap (λ (i : ℕ). getD mem i 0) (sym e) ∙ record-word d mem s (blockAt a + 1) (live-below d mem s l) b in
+      rw (p, q) (block-word d mem s l a)
+
+  module _ (h : blocksHold (decodeNodes d mem) ≡ true) (first : ℕ) (f : first ≡ arenaAt (limitsOf (d .limits)) a) where
+    inside-arena : getD mem at 0 + getD mem (at + 1) 0 ≤ entriesOf (d .limits) a
+    inside-arena =
+        let i = block-inside D (blocks-of-test D (shape noTexts [] true d mem ok) h) a s l in
+        omega (arith, rw (sym block-read) at i, length-ids d mem ok a)
+
+    -- what the function that reads it asks
+    pub list-inside : (at + 1 < length mem) × (first + getD mem at 0 + getD mem (at + 1) 0 ≤ length mem)
+    list-inside =
+        let z = sizes d (length mem) ok in
+        let b = block-at-below a in
+        let m = live-below d mem s l in
+        (omega (arith, z .slots), omega (arith, inside-arena, z .arena a))
+
+    entries-here : part (first + getD mem at 0) (getD mem (at + 1) 0) mem ≡ entriesIn D a s
     unfolding entriesIn
-    entries-here = rw (sym f ∙ y) (ap (listOf (arenaIn d w mem)) (sym e))
+    entries-here =
+        let A = arenaAt (limitsOf (d .limits)) a in
+        let e : arenaIn d a mem .ids ≡ part A (entriesOf (d .limits) a) mem = take-part mem A (2 * entriesOf (d .limits) a) (entriesOf (d .limits) a) (omega arith) in
+        rw (l, ← block-read, e, f) (sym (part-part mem A (entriesOf (d .limits) a) (getD mem at 0) (getD mem (at + 1) 0) inside-arena))
 
-    pub list-counted : (owner : ℕ) → owner ≡ handleAt (decodeNodes d mem) s → (after : List ℕ) (u : Bool)
-        → Pass (slotsMade d) (all (enters (decodeNodes d mem) w owner) (listOf (arenaIn d w mem) (blockOf r))) (map handleIndex (listOf (arenaIn d w mem) (blockOf r))) before after u
-        → Pass (slotsMade d) (entriesEnter (decodeNodes d mem) w s) (slotsEntered (decodeNodes d mem) w s) before after u
+    pub list-passed : wordsHold d mem ≡ true → (m owner : ℕ) → m ≡ slotsMade d → owner ≡ handleAt (decodeNodes d mem) s → (before after : List ℕ) (u : Bool)
+        → Pass m (all (wordsEnter (d .limits .nodes) m mem (listNumber a) owner) (part (first + getD mem at 0) (getD mem (at + 1) 0) mem)) (map handleIndex (part (first + getD mem at 0) (getD mem (at + 1) 0) mem)) before after u
+        → Pass (slotsMade d) (entriesEnter (decodeNodes d mem) a s) (slotsEntered (decodeNodes d mem) a s) before after u
     unfolding entriesEnter slotsEntered
-    list-counted owner q after u p = rw (sym q, entries-here) p
+    list-passed words m owner em eo before after u p =
+        let q : all (wordsEnter n (slotsMade d) mem (listNumber a) (handleAt D s)) (entriesIn D a s) ≡ all (enters D a (handleAt D s)) (entriesIn D a s) =
+        all-same (wordsEnter n (slotsMade d) mem (listNumber a) (handleAt D s)) (enters D a (handleAt D s)) (entriesIn D a s) (λ x. words-enter d mem words a (handleAt D s) x) in
+        subst (λ (t : Bool). Pass (slotsMade d) t (map handleIndex (entriesIn D a s)) before after u) q (rw (em, eo, entries-here) at p)
 
-  no-entries : t ≡ false → entriesIn (decodeNodes d mem) w s ≡ []
-  unfolding entriesIn
-  no-entries n = rw (sym f ∙ n)
+-- ---- the three lists of a slot, one after another
 
-  pub list-none : t ≡ false → Pass (slotsMade d) (entriesEnter (decodeNodes d mem) w s) (slotsEntered (decodeNodes d mem) w s) before before true
-  unfolding entriesEnter slotsEntered
-  list-none n = rw (no-entries n) (record { answer = refl; counts = λ _. adds-none (slotsMade d) before })
-
--- ---- the three arenas
-
-module _ (D : Doc) (n : ℕ) (before a : List ℕ) (t : Bool) where
-  abbrev tests : Which → Bool
-  tests w = allBelow (entriesEnter D w) n
-
-  abbrev slots : Which → List ℕ
-  slots w = gathered (slotsEntered D w) n
-
-  pub first-refused : Pass n (tests children) (slots children) before a t → not t ≡ true
-      → Pass n (allWhich (λ w. allBelow (entriesEnter D w) n)) (slotsListed D n) before a false
-  unfolding allWhich
+module _ (D : Doc) (made i : ℕ) (before a : List ℕ) (t : Bool) where
+  pub first-refused : Pass made (entriesEnter D children i) (slotsEntered D children i) before a t → not t ≡ true → Pass made (listsEnter D i) (slotsNamed D i) before a false
+  unfolding listsEnter allWhich
   first-refused p e = record { answer = rw (← p .answer, refused t e); counts = λ z. absurd (false≢true z) }
 
-  module _ (p : Pass n (tests children) (slots children) before a t) (y : not t ≡ false) (b : List ℕ) (u : Bool) (q : Pass n (tests attributes) (slots attributes) a b u) where
-    pub second-refused : not u ≡ true → Pass n (allWhich (λ w. allBelow (entriesEnter D w) n)) (slotsListed D n) before b false
-    unfolding allWhich
+  module _ (p : Pass made (entriesEnter D children i) (slotsEntered D children i) before a t) (y : not t ≡ false) (b : List ℕ) (u : Bool)
+      (q : Pass made (entriesEnter D attributes i) (slotsEntered D attributes i) a b u) where
+    pub second-refused : not u ≡ true → Pass made (listsEnter D i) (slotsNamed D i) before b false
+    unfolding listsEnter allWhich
     second-refused e = record { answer = rw (← p .answer, passed t y, ← q .answer, refused u e); counts = λ z. absurd (false≢true z) }
 
-    pub third : not u ≡ false → (c : List ℕ) (v : Bool) → Pass n (tests namespaces) (slots namespaces) b c v
-        → Pass n (allWhich (λ w. allBelow (entriesEnter D w) n)) (slotsListed D n) before c v
-    unfolding allWhich slotsListed
+    pub third : not u ≡ false → (c : List ℕ) (v : Bool) → Pass made (entriesEnter D namespaces i) (slotsEntered D namespaces i) b c v
+        → Pass made (listsEnter D i) (slotsNamed D i) before c v
+    unfolding listsEnter allWhich slotsNamed
     third z c v r = record {
       answer = rw (← p .answer, passed t y, ← q .answer, passed u z) (r .answer);
-      counts = λ g. adds-then n (slots children) (slots attributes ++ slots namespaces) before a c (p .counts (passed t y))
-          (adds-then n (slots attributes) (slots namespaces) a b c (q .counts (passed u z)) (r .counts g));
+      counts = λ g. adds-then made (slotsEntered D children i) (slotsEntered D attributes i ++ slotsEntered D namespaces i) before a c (p .counts (passed t y))
+          (adds-then made (slotsEntered D attributes i) (slotsEntered D namespaces i) a b c (q .counts (passed u z)) (r .counts g));
     }
+
+-- a free slot has no lists
+pub lists-none : (D : Doc) (made i : ℕ) (before : List ℕ) (t : Bool) → t ≡ liveSlot D i → t ≡ false → Pass made (listsEnter D i) (slotsNamed D i) before before true
+unfolding entriesIn entriesEnter slotsEntered listsEnter allWhich slotsNamed
+lists-none D made i before t f n = rw (sym f ∙ n) (record { answer = refl; counts = λ _. adds-none made before })
 
 -- ---- each live node with a parent once
 
-pub parent-marked : (p : Parent) (id : NodeId) (mark : ℕ) → p ≡ parent.Of id → eqb mark 1 ≡ allOption (λ _. eqb mark 1) (handleOf p)
-parent-marked p id mark e = rw e
+module _ (D : Doc) (s mark : ℕ) where
+  pub entered-marked : eqb mark 1 ≡ true → true ≡ implies (liveSlot D s) (allOption (λ _. eqb mark 1) (parentIn D s))
+  entered-marked e = go (liveSlot D s) (parentIn D s)
+    where
+      go : (l : Bool) (o : Option ℕ) → true ≡ implies l (allOption (λ _. eqb mark 1) o)
+      go false o = refl
+      go true none = refl
+      go true (some p) = sym e
 
-module _ (D : Doc) (s mark : ℕ) (t : Bool) (f : t ≡ liveSlot D s) where
-  pub entered-live : t ≡ true → (p : Parent) (r : Bool) → handleOf p ≡ parentIn D s → r ≡ allOption (λ _. eqb mark 1) (handleOf p)
-      → r ≡ implies (liveSlot D s) (allOption (λ _. eqb mark 1) (parentIn D s))
-  entered-live y p r e q = q ∙ ap (allOption (λ _. eqb mark 1)) e ∙ sym (rw (sym f ∙ y))
+  module _ (t : Bool) (f : t ≡ liveSlot D s) where
+    pub entered-live : t ≡ true → eqb mark 1 ≡ false → (r : Bool) → r ≡ isNone (parentIn D s) → r ≡ implies (liveSlot D s) (allOption (λ _. eqb mark 1) (parentIn D s))
+    entered-live y n r e = e ∙ rw (sym f ∙ y) (go (parentIn D s))
+      where
+        go : (o : Option ℕ) → isNone o ≡ allOption (λ _. eqb mark 1) o
+        go none = refl
+        go (some p) = sym n
 
-  pub entered-free : t ≡ false → true ≡ implies (liveSlot D s) (allOption (λ _. eqb mark 1) (parentIn D s))
-  entered-free n = sym (rw (sym f ∙ n))
+    pub entered-free : t ≡ false → true ≡ implies (liveSlot D s) (allOption (λ _. eqb mark 1) (parentIn D s))
+    entered-free n = sym (rw (sym f ∙ n))
 
 pub marked-is : (D : Doc) (marks : List ℕ) (i : ℕ) (r : Bool) → r ≡ implies (liveSlot D i) (allOption (λ _. eqb (getD marks i 0) 1) (parentIn D i)) → r ≡ markedOnce D marks i
 unfolding markedOnce
@@ -236,20 +215,20 @@ marked-is D marks i r e = e
 -- ---- rule 4
 
 module _ (d : Document) (mem marks after : List ℕ) (t : Bool)
-    (p : Pass (slotsMade d) (allWhich (λ w. allBelow (entriesEnter (decodeNodes d mem) w) (slotsMade d))) (slotsListed (decodeNodes d mem) (slotsMade d)) marks after t) where
+    (p : Pass (slotsMade d) (allBelow (listsEnter (decodeNodes d mem)) (slotsMade d)) (gathered (slotsNamed (decodeNodes d mem)) (slotsMade d)) marks after t) where
   slots-made : slotsMade d ≡ length (decodeNodes d mem .gens)
   slots-made = sym (columns.length-gens noTexts [] true d mem)
 
   pub rule-refused : t ≡ false → false ≡ entriesHold (decodeNodes d mem)
-  rule-refused e = entries-no (decodeNodes d mem) t (subst (λ (k : ℕ). t ≡ allWhich (λ w. allBelow (entriesEnter (decodeNodes d mem) w) k)) slots-made (p .answer)) e
+  rule-refused e = entries-no (decodeNodes d mem) t (subst (λ (k : ℕ). t ≡ allBelow (listsEnter (decodeNodes d mem)) k) slots-made (p .answer)) e
 
   pub rule-decided : t ≡ true → memoryOk d (length mem) ≡ true → parentsHold (decodeNodes d mem) ≡ true → slotsMade d ≤ length marks → marks ≡ replicate (length marks) 0
       → (r : Bool) → r ≡ allBelow (markedOnce (decodeNodes d mem) after) (slotsMade d) → r ≡ entriesHold (decodeNodes d mem)
   rule-decided e ok h l z r q =
       entries-yes (decodeNodes d mem) small (parents-of-test (decodeNodes d mem) h) after t r
-      (subst (λ (k : ℕ). t ≡ allWhich (λ w. allBelow (entriesEnter (decodeNodes d mem) w) k)) slots-made (p .answer))
+      (subst (λ (k : ℕ). t ≡ allBelow (listsEnter (decodeNodes d mem)) k) slots-made (p .answer))
       e
-      (subst (λ (k : ℕ). Counted k (slotsListed (decodeNodes d mem) k) after) slots-made (p .counts e .adds [] (counted-none (slotsMade d) marks l z)))
+      (subst (λ (k : ℕ). Counted k (gathered (slotsNamed (decodeNodes d mem)) k) after) slots-made (p .counts e .adds [] (counted-none (slotsMade d) marks l z)))
       (subst (λ (k : ℕ). r ≡ allBelow (markedOnce (decodeNodes d mem) after) k) slots-made q)
     where
       small : length (decodeNodes d mem .gens) ≤ 4294967296

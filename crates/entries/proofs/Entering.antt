@@ -2,7 +2,7 @@
 -- mark of its slot tells how often it stands there.
 -- Assumes nothing.
 use mathlib.Core.Path.{_≡_, refl, sym, ap, _∙_}
-use mathlib.Core.Bool.{Bool, true, false, cond, and-false, and-true, false≢true, true≢false}
+use mathlib.Core.Bool.{Bool, true, false, _&&_, cond, and-false, and-true, false≢true, true≢false}
 use mathlib.Core.Option.{Option, none, some, Option·some-injective}
 use mathlib.Core.List.{List, [], _++_, List·Memᴰ}
 use Prim.Native.Nat.{ℕ, _+_, _≤_, _<_, min}
@@ -12,7 +12,7 @@ use lib.ListN.{length, getD}
 use lib.Dec.{eqb}
 use borrow.Author.Tests.{eqb-true, eq-eqb, ne-eqb}
 use Rattle.words.specs.Lists.{countOf, all, allBelow}
-use Rattle.words.proofs.Lists.{countOf-append, allBelow-at}
+use Rattle.words.proofs.Lists.{allBelow-at}
 use Rattle.words.proofs.Tests.{and-left, and-right}
 use Rattle.slots.specs.Handles.{handleIndex, handleGeneration}
 use Rattle.slots.proofs.Lists.{allBelow-same}
@@ -25,8 +25,8 @@ use Rattle.model.proofs.Basics.{live-below}
 use Rattle.model.proofs.Counting.{all-mem}
 use Rattle.model.proofs.Quantifiers.{which-at}
 use Rattle.entries.specs.Marks.{Counted, gathered}
-use Rattle.entries.specs.Entering.{enters, entriesIn, entriesEnter, slotsEntered, slotsListed, markedOnce}
-use Rattle.entries.proofs.Lists.{countOf-same, countOf-none, countOf-map, gathered-none, gathered-one}
+use Rattle.entries.specs.Entering.{enters, entriesIn, entriesEnter, slotsEntered, listsEnter, slotsNamed, markedOnce}
+use Rattle.entries.proofs.Lists.{countOf-same, countOf-none, countOf-map, gathered-joined, gathered-none, gathered-one, allBelow-and}
 
 -- ---- what an entry that may stand there tells
 
@@ -64,10 +64,6 @@ module _ (D : Doc) where
         parent = parent-told (parentAt D h) owner (search (and-left, and-right));
         list = same-list (whichOf (kindAt D h)) w (search (and-left, and-right));
       }
-
-  -- the slot that it names was made
-  pub entry-below : (w : Which) (owner h : ℕ) → enters D w owner h ≡ true → handleIndex h < length (D .gens)
-  entry-below w owner h e = live-below D (handleIndex h) (told w owner h e .live)
 
   module _ (small : length (D .gens) ≤ 4294967296) where
     handle-index : (i : ℕ) → i < length (D .gens) → handleIndex (handleAt D i) ≡ i
@@ -155,17 +151,17 @@ module _ (D : Doc) where
     -- ---- the three kinds together
 
     module _ (R : Parents D) (t : (w : Which) → allBelow (entriesEnter D w) (length (D .gens)) ≡ true) where
-      total : (x : ℕ) → countOf (eqb x) (slotsListed D (length (D .gens)))
+      total : (x : ℕ) → countOf (eqb x) (gathered (slotsNamed D) (length (D .gens)))
           ≡ countOf (eqb x) (gathered (slotsEntered D children) (length (D .gens)))
           + (countOf (eqb x) (gathered (slotsEntered D attributes) (length (D .gens))) + countOf (eqb x) (gathered (slotsEntered D namespaces) (length (D .gens))))
-      unfolding slotsListed
+      unfolding slotsNamed
       total x =
-          countOf-append (eqb x) (gathered (slotsEntered D children) (length (D .gens))) (gathered (slotsEntered D attributes) (length (D .gens)) ++ gathered (slotsEntered D namespaces) (length (D .gens)))
+          gathered-joined (eqb x) (slotsEntered D children) (λ i. slotsEntered D attributes i ++ slotsEntered D namespaces i) (length (D .gens))
           ∙ ap (λ (k : ℕ). countOf (eqb x) (gathered (slotsEntered D children) (length (D .gens))) + k)
-          (countOf-append (eqb x) (gathered (slotsEntered D attributes) (length (D .gens))) (gathered (slotsEntered D namespaces) (length (D .gens))))
+          (gathered-joined (eqb x) (slotsEntered D attributes) (slotsEntered D namespaces) (length (D .gens)))
 
       pub entered-count : (x p : ℕ) → liveSlot D x ≡ true → parentIn D x ≡ some p
-          → countOf (eqb x) (slotsListed D (length (D .gens))) ≡ countOf (eqb (handleAt D x)) (listAt D (whichOf (kindIn D x)) p)
+          → countOf (eqb x) (gathered (slotsNamed D) (length (D .gens))) ≡ countOf (eqb (handleAt D x)) (listAt D (whichOf (kindIn D x)) p)
       entered-count x p lx ep = total x ∙ go (whichOf (kindIn D x)) refl
         where
           absent : (v w : Which) → whichOf (kindIn D x) ≡ v → sameWhich v w ≡ false → countOf (eqb x) (gathered (slotsEntered D w) (length (D .gens))) ≡ 0
@@ -197,7 +193,7 @@ module _ (D : Doc) where
           go (yes e) = eq-eqb (min 2 c) 1 (omega arith) ∙ sym (eq-eqb c 1 e)
           go (no n) = ne-eqb (min 2 c) 1 (λ q. n (omega arith)) ∙ sym (ne-eqb c 1 n)
 
-      marked : (marks : List ℕ) → Counted (length (D .gens)) (slotsListed D (length (D .gens))) marks → (x : ℕ) → x < length (D .gens)
+      marked : (marks : List ℕ) → Counted (length (D .gens)) (gathered (slotsNamed D) (length (D .gens))) marks → (x : ℕ) → x < length (D .gens)
           → markedOnce D marks x ≡ implies (liveSlot D x) (allOption (enteredOnce D x) (parentIn D x))
       unfolding markedOnce
       marked marks c x b = go (liveSlot D x) refl (parentIn D x) refl
@@ -207,7 +203,7 @@ module _ (D : Doc) where
           go false el o eo = refl
           go true el none eo = refl
           go true el (some p) eo =
-              ap (λ (k : ℕ). eqb k 1) (c .mark x b) ∙ once-told (countOf (eqb x) (slotsListed D (length (D .gens)))) ∙ ap (λ (k : ℕ). eqb k 1) (entered-count x p el eo)
+              ap (λ (k : ℕ). eqb k 1) (c .mark x b) ∙ once-told (countOf (eqb x) (gathered (slotsNamed D) (length (D .gens)))) ∙ ap (λ (k : ℕ). eqb k 1) (entered-count x p el eo)
 
 -- ---- the test of rule 4
 
@@ -221,20 +217,27 @@ module _ (D : Doc) where
       go i true = refl
       go i false = refl
 
-  others : allWhich (λ w. allLive D (λ i. all (entryHolds D w i) (listIn D w i))) ≡ allWhich (λ w. allBelow (entriesEnter D w) (length (D .gens)))
-  unfolding allWhich
-  others = rw (list-tests children, list-tests attributes, list-tests namespaces)
+  -- list by list, or slot by slot
+  slot-tests : allBelow (listsEnter D) (length (D .gens)) ≡ allWhich (λ w. allBelow (entriesEnter D w) (length (D .gens)))
+  unfolding listsEnter allWhich
+  slot-tests =
+      allBelow-and (λ i. entriesEnter D children i && entriesEnter D attributes i) (entriesEnter D namespaces) (length (D .gens))
+      ∙ ap (λ (t : Bool). t && allBelow (entriesEnter D namespaces) (length (D .gens))) (allBelow-and (entriesEnter D children) (entriesEnter D attributes) (length (D .gens)))
 
-  pub entries-no : (t : Bool) → t ≡ allWhich (λ w. allBelow (entriesEnter D w) (length (D .gens))) → t ≡ false → false ≡ entriesHold D
+  others : allWhich (λ w. allLive D (λ i. all (entryHolds D w i) (listIn D w i))) ≡ allBelow (listsEnter D) (length (D .gens))
+  unfolding allWhich
+  others = rw (list-tests children, list-tests attributes, list-tests namespaces) (sym slot-tests)
+
+  pub entries-no : (t : Bool) → t ≡ allBelow (listsEnter D) (length (D .gens)) → t ≡ false → false ≡ entriesHold D
   unfolding entriesHold
   entries-no t e f = sym (rw (others, ← e, f) (and-false (allLive D (λ i. allOption (enteredOnce D i) (parentIn D i)))))
 
   pub entries-yes : (small : length (D .gens) ≤ 4294967296) → Parents D → (marks : List ℕ) (t r : Bool)
-      → t ≡ allWhich (λ w. allBelow (entriesEnter D w) (length (D .gens))) → t ≡ true → Counted (length (D .gens)) (slotsListed D (length (D .gens))) marks
+      → t ≡ allBelow (listsEnter D) (length (D .gens)) → t ≡ true → Counted (length (D .gens)) (gathered (slotsNamed D) (length (D .gens))) marks
       → r ≡ allBelow (markedOnce D marks) (length (D .gens)) → r ≡ entriesHold D
   unfolding entriesHold allLive
   entries-yes small R marks t r e h c q =
-      let k = which-at (λ w. allBelow (entriesEnter D w) (length (D .gens))) (sym e ∙ h) in
+      let k = which-at (λ w. allBelow (entriesEnter D w) (length (D .gens))) (sym slot-tests ∙ sym e ∙ h) in
       let s : allBelow (markedOnce D marks) (length (D .gens)) ≡ allLive D (λ i. allOption (enteredOnce D i) (parentIn D i)) =
       allBelow-same (markedOnce D marks) (λ i. implies (liveSlot D i) (allOption (enteredOnce D i) (parentIn D i))) (length (D .gens)) (marked D small R k marks c) in
       q ∙ s ∙ sym (rw (others, ← e, h) (and-true (allLive D (λ i. allOption (enteredOnce D i) (parentIn D i)))))

@@ -2,6 +2,7 @@ pub mod Lists
 pub mod Marks
 pub mod Entering
 pub mod Words
+pub mod EntryWords
 pub mod Counting
 pub mod Paths
 pub mod Fields

@@ -75,6 +75,12 @@ module _ {A : Type 0} where
   countOf-next p f n =
       ap (countOf p) (gathered-suc f n) ∙ countOf-append p (gathered f n) (f n)
 
+  -- lists that are joined slot by slot
+  pub gathered-joined : (p : A → Bool) (f g : ℕ → List A) (n : ℕ) → countOf p (gathered (λ i. f i ++ g i) n) ≡ countOf p (gathered f n) + countOf p (gathered g n)
+  gathered-joined p f g zero = refl
+  gathered-joined p f g (suc n) =
+      omega (arith, countOf-next p (λ i. f i ++ g i) n, countOf-append p (f n) (g n), countOf-next p f n, countOf-next p g n, gathered-joined p f g n)
+
   -- where no list has what is counted, and where one alone has
   pub gathered-none : (p : A → Bool) (f : ℕ → List A) (n : ℕ) → ((i : ℕ) → i < n → countOf p (f i) ≡ 0) → countOf p (gathered f n) ≡ 0
   gathered-none p f zero h = refl

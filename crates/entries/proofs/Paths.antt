@@ -1,36 +1,34 @@
 -- Rule 6: what following parents tells, and what the functions that follow them cite.
 -- Assumes nothing.
 use mathlib.Core.Path.{_≡_, refl, sym, ap, _∙_, subst}
-use mathlib.Core.Bool.{Bool, true, false, not, cond, false≢true, true≢false}
+use mathlib.Core.Bool.{Bool, true, false, not, _||_, cond, false≢true, true≢false}
 use mathlib.Core.Option.{Option, none, some}
 use mathlib.Core.List.{List, [], _∷_}
-use Prim.Native.Nat.{ℕ, zero, suc, _+_, _-_, _%_, _≤_, _<_}
+use Prim.Native.Nat.{ℕ, zero, suc, _+_, _-_, _≤_, _<_}
 use native.Mathlib.Decide.{ℕ-discrete, decLt}
 use native.Mathlib.Omega.{arith}
 use lib.ListN.{length, getD, set, replicate, getD-replicate, List·getD-eq-default}
 use lib.Seq.{getD-set-other}
 use lib.Dec.{eqb, leb}
-use borrow.Author.Tests.{eq-eqb, leb-true, le-leb}
+use borrow.Author.Tests.{eq-eqb, ne-eqb, leb-true, le-leb, lt-leb}
 use Rattle.words.specs.Lists.{countOf}
 use Rattle.words.proofs.Lists.{length-tabulate}
 use Rattle.slots.specs.Handles.{handleIndex, wordOf}
-use Rattle.slots.specs.declared.NodeId.{NodeId}
-use Rattle.slots.specs.declared.Parent.{Parent}
-use Rattle.slots.specs.declared.Parent.the-variants as parent
 use Rattle.model.specs.Doc.{Doc, liveSlot, resolves, parentIn, mapOption, orElse}
 use Rattle.model.specs.Rules.{Ends}
 use Rattle.model.specs.RulesTest.{allOption, allLive, endsWithin, parentsHold, parentsEndHolds}
 use Rattle.model.proofs.Basics.{live-below}
+use Rattle.model.proofs.Handles.{index-handleWord}
 use Rattle.model.proofs.Quantifiers.{live-at}
 use Rattle.model.proofs.RulesTestEntries.{parents-of-test}
 use Rattle.model.proofs.RulesTestPaths.{test-of-ends}
 use Rattle.memory.specs.declared.layout.Document.{Document}
-use Rattle.memory.specs.Decode.{handleOf, parentLoaded, loadedAt, slotsPart, slotsMade}
+use Rattle.memory.specs.Decode.{parentLoaded, loadedAt, slotsPart, slotsMade}
 use Rattle.memory.proofs.Columns as columns
-use Rattle.entries.specs.Nodes.{noTexts, decodeNodes}
-use Rattle.entries.specs.Paths.{parentSlot, Known, Followed, Passed}
+use Rattle.entries.specs.Nodes.{noTexts, decodeNodes, recordWord}
+use Rattle.entries.specs.Paths.{parentSlot, Known, knownSlot, Followed, Passed}
 use Rattle.entries.proofs.Marks.{passed, refused}
-use Rattle.entries.proofs.Words.{current-live}
+use Rattle.entries.proofs.Words.{current-live, parent-word, parent-narrow}
 
 -- ---- over the document
 
@@ -150,9 +148,6 @@ fewer (y ∷ l) (suc x) b e = let h = fewer l x (omega arith) e in omega arith
 
 -- ---- the parent's slot
 
-pub slot-of-parent : (p : Parent) (id : NodeId) (past r : ℕ) → p ≡ parent.Of id → r ≡ wordOf id → r % 4294967296 ≡ orElse past (mapOption handleIndex (handleOf p))
-slot-of-parent p id past r e q = rw (e, q)
-
 -- a parent for each slot
 pub parents-made : (d : Document) (mem : List ℕ) → length (decodeNodes d mem .parents) ≡ length (decodeNodes d mem .gens)
 parents-made d mem = length-tabulate (λ s. parentLoaded (loadedAt (d .limits .nodes) (slotsPart d mem) s)) (slotsMade d) ∙ sym (columns.length-gens noTexts [] true d mem)
@@ -160,29 +155,66 @@ parents-made d mem = length-tabulate (λ s. parentLoaded (loadedAt (d .limits .n
 pub gens-made : (d : Document) (mem : List ℕ) → length (decodeNodes d mem .gens) ≡ slotsMade d
 gens-made d mem = columns.length-gens noTexts [] true d mem
 
-pub parent-slot : (d : Document) (mem : List ℕ) (s past r : ℕ) (p : Parent) → handleOf p ≡ parentIn (decodeNodes d mem) s → past ≡ slotsMade d
-    → r ≡ orElse past (mapOption handleIndex (handleOf p)) → r ≡ parentSlot (decodeNodes d mem) s
-parent-slot d mem s past r p e f q =
-    q
-    ∙ ap (λ (z : ℕ). orElse z (mapOption handleIndex (handleOf p))) (f ∙ sym (gens-made d mem))
-    ∙ ap (λ (o : Option ℕ). orElse (length (decodeNodes d mem .gens)) (mapOption handleIndex o)) e
+module _ (d : Document) (mem : List ℕ) (s : ℕ) (l : liveSlot (decodeNodes d mem) s ≡ true) (w : ℕ) (q : w ≡ recordWord d mem s 4) where
+  pub parent-none : w ≡ 0 → (made : ℕ) → made ≡ slotsMade d → made ≡ parentSlot (decodeNodes d mem) s
+  parent-none z made e =
+      let o : parentIn (decodeNodes d mem) s ≡ none = sym (parent-word d mem s l) ∙ rw (eq-eqb (recordWord d mem s 4) 0 (sym q ∙ z)) in
+      e ∙ sym (gens-made d mem) ∙ sym (rw o)
+
+  pub parent-some : (w ≡ 0 → ⊥) → w - 1 ≡ parentSlot (decodeNodes d mem) s
+  parent-some n =
+      let b = parent-narrow d mem s l .0 in
+      let x = recordWord d mem s 4 in
+      let g = recordWord d mem s 5 in
+      let o : parentIn (decodeNodes d mem) s ≡ some (wordOf (record { index = x - 1; generation = g })) = sym (parent-word d mem s l) ∙ rw (ne-eqb x 0 (λ z. n (q ∙ z))) in
+      let i : handleIndex (wordOf (record { index = x - 1; generation = g })) ≡ x - 1 = index-handleWord (x - 1) g (omega arith) in
+      ap (λ (y : ℕ). y - 1) q ∙ sym i ∙ sym (rw o)
+
+-- ---- a slot whose parent is known
+
+known-tells : (D : Doc) → length (D .parents) ≡ length (D .gens) → (marks : List ℕ) → Known D marks → (n i : ℕ) → n ≡ length (D .gens) → knownSlot marks n i ≡ true → Ends D i
+unfolding knownSlot
+known-tells D one marks K n i e = go (decLt i n)
+  where
+    marked : Dec (getD marks i 0 ≡ 0) → (false || not (eqb (getD marks i 0) 0)) ≡ true → Ends D i
+    marked (yes z) q = absurd (false≢true (rw (eq-eqb (getD marks i 0) 0 z) at q))
+    marked (no z) q = K .ends i z
+
+    go : Dec (i < n) → (leb n i || not (eqb (getD marks i 0) 0)) ≡ true → Ends D i
+    go (yes b) q = marked (ℕ-discrete (getD marks i 0) 0) (rw (lt-leb n i b) at q)
+    go (no b) q = past-ends D one i (omega arith)
+
+pub known-past : (marks : List ℕ) (n i : ℕ) → n ≤ i → true ≡ knownSlot marks n i
+unfolding knownSlot
+known-past marks n i h = sym (rw (le-leb n i h))
+
+pub known-made : (marks : List ℕ) (n i : ℕ) → i < n → not (eqb (getD marks i 0) 0) ≡ knownSlot marks n i
+unfolding knownSlot
+known-made marks n i h = sym (rw (lt-leb n i h))
 
 -- ---- a slot's path is passed
 
-module _ (D : Doc) (s : ℕ) (t : Bool) (f : t ≡ liveSlot D s) where
-  pub pass-free : t ≡ false → (marks : List ℕ) → Known D marks → Passed D s marks true
-  pass-free n marks K = record {
+module _ (D : Doc) (s : ℕ) where
+  pub pass-free : (t : Bool) → t ≡ liveSlot D s → not t ≡ true → (marks : List ℕ) → Known D marks → Passed D s marks true
+  pass-free t f n marks K = record {
     known = λ _. K;
-    ends = λ _ l. absurd (false≢true (sym n ∙ f ∙ l));
+    ends = λ _ l. absurd (false≢true (sym (refused t n) ∙ f ∙ l));
     lost = λ e. absurd (true≢false e);
   }
 
-  module _ (y : t ≡ true) (r : Bool) (F : Followed D s r) (after : List ℕ) where
+  -- where its parent is known
+  pub pass-known : length (D .parents) ≡ length (D .gens) → (marks : List ℕ) → Known D marks → s < length marks → (n p : ℕ) (r : Bool) → n ≡ length (D .gens) → p ≡ parentSlot D s
+      → r ≡ knownSlot marks n p → r ≡ true → (v : ℕ) → Passed D s (set marks s v) true
+  pass-known one marks K b n p r en ep er y v =
+      let E : Ends D s = end-below D one s (subst (λ (i : ℕ). Ends D i) ep (known-tells D one marks K n p en (sym er ∙ y))) in
+      record { known = λ _. known-next D marks s v K E b; ends = λ _ _. E; lost = λ z. absurd (true≢false z) }
+
+  module _ (l : liveSlot D s ≡ true) (r : Bool) (F : Followed D s r) (after : List ℕ) where
     pub pass-lost : not r ≡ true → Passed D s after false
     pass-lost e = record {
       known = λ z. absurd (false≢true z);
       ends = λ z _. absurd (false≢true z);
-      lost = λ _. (sym f ∙ y, F .lost (refused r e));
+      lost = λ _. (l, F .lost (refused r e));
     }
 
     pub pass-marked : not r ≡ false → Known D after → Passed D s after true

@@ -3,7 +3,7 @@
 use mathlib.Core.Path.{_≡_, refl, sym, ap, _∙_}
 use mathlib.Core.Bool.{Bool, true, false, _&&_, cond, false≢true}
 use mathlib.Core.List.{List, []}
-use Prim.Native.Nat.{ℕ, _+_, _*_, _/_, _%_, _<_, _≤_}
+use Prim.Native.Nat.{ℕ, _+_, _-_, _*_, _/_, _%_, _<_, _≤_}
 use native.Mathlib.Omega.{arith}
 use native.Mathlib.Nat.{add-sub-cancel}
 use native.Mathlib.Decide.{ℕ-discrete}
@@ -31,7 +31,7 @@ use Rattle.slots.specs.declared.Loaded.{Loaded}
 use Rattle.slots.specs.declared.Loaded.the-variants.{Found, NoNode}
 use Rattle.model.specs.Kinds.{Which, children, attributes, namespaces}
 use Rattle.model.specs.Doc as doc
-use Rattle.model.specs.Doc.{Doc, handleWord, handleAt, liveSlot, resolves, kindIn, parentIn, rangeIn}
+use Rattle.model.specs.Doc.{Doc, handleWord, handleAt, isNone, liveSlot, resolves, kindIn, parentIn, rangeIn}
 use Rattle.memory.specs.declared.layout.Document.{Document}
 use Rattle.memory.specs.Decode.{kindOf, handleOf, slotOf, elementRange, rangeOf, loadedAt, slotsPart, slotsMade}
 use Rattle.memory.proofs.Columns as columns
@@ -225,6 +225,13 @@ module _ (d : Document) (mem : List ℕ) where
         ap (λ (r : NodeRecord). handleOf (parentOf (r .parent) (r .generation))) (h .words)
         ∙ word-handle (m .parent)
         ∙ sym (columns.parent-found noTexts [] true d mem s (h .slot-made) m (h .found)))
+
+    pub parent-absent : (w : ℕ) → w ≡ recordWord d mem s 4 → eqb w 0 ≡ isNone (parentIn (decodeNodes d mem) s)
+    parent-absent w e = ap (λ (x : ℕ). eqb x 0) e ∙ go (eqb (recordWord d mem s 4) 0) ∙ ap isNone parent-word
+      where
+        go : (t : Bool) → t ≡ isNone (handleOf (cond t None (Of (record { index = recordWord d mem s 4 - 1; generation = recordWord d mem s 5 }))))
+        go true = refl
+        go false = refl
 
     pub block-narrow : (a : Which) → (recordWord d mem s (blockAt a) < 4294967296) × (recordWord d mem s (blockAt a + 1) < 4294967296)
     unfolding recordWord recordAt

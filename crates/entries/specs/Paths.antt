@@ -1,9 +1,10 @@
 -- Rule 6 as the check decides it: paths of parents are followed, and the slots on a path that ends are marked, so that a later path stops at them.
 use mathlib.Core.Path.{_≡_}
-use mathlib.Core.Bool.{Bool, true, false}
+use mathlib.Core.Bool.{Bool, true, false, not, _||_}
 use mathlib.Core.List.{List}
 use Prim.Native.Nat.{ℕ}
 use lib.ListN.{length, getD}
+use lib.Dec.{eqb, leb}
 use Rattle.slots.specs.Handles.{handleIndex}
 use Rattle.model.specs.Doc.{Doc, liveSlot, parentIn, mapOption, orElse}
 use Rattle.model.specs.Rules.{Ends}
@@ -16,6 +17,10 @@ parentSlot D i = orElse (length (D .gens)) (mapOption handleIndex (parentIn D i)
 -- a slot whose mark is not 0 is known: following its parents ends
 pub record Known (D : Doc) (marks : List ℕ) : Type 0 where
   pub ends : (i : ℕ) → (getD marks i 0 ≡ 0 → ⊥) → Ends D i
+
+-- so does a slot that was not made
+unfoldable pub knownSlot : List ℕ → ℕ → ℕ → Bool
+knownSlot marks n i = leb n i || not (eqb (getD marks i 0) 0)
 
 -- what following parents from a slot tells: they end, or not in as many steps as there are slots
 pub record Followed (D : Doc) (i : ℕ) (r : Bool) : Type 0 where

@@ -1,59 +1,35 @@
 // Rule 4: each entry of each live node's lists is tested where it stands and counted in the mark of its slot; then each live node with a parent is
-// to have been counted once.
+// to have been counted once. What is done for each entry takes plain numbers: the record of the document is read once a slot.
 ghost use mathlib.Core.Path.{_≡_};
 ghost use mathlib.Core.Bool.{true, _&&_};
 ghost use mathlib.Core.List.{[], _∷_, map};
-ghost use Prim.Native.Nat.{_+_, _<_, _≤_};
+ghost use Prim.Native.Nat.{_+_, _*_, _<_, _≤_};
 ghost use lib.ListN.{length, getD, replicate};
 ghost use lib.Dec.{eqb};
+ghost use Rattle.words.specs.Parts.{part};
 ghost use Rattle.words.specs.Lists.{all, allBelow};
-ghost use Rattle.blocks.specs.Arena.{listOf};
 ghost use Rattle.slots.specs.Handles.{handleIndex};
-ghost use Rattle.model.specs.Kinds.{sameWhich};
-ghost use Rattle.model.specs.Kinds as kinds;
-ghost use Rattle.model.specs.Doc.{anyOption, liveSlot, kindIn, parentIn};
-ghost use Rattle.model.specs.RulesTest.{implies, allOption, allWhich, parentsHold, entriesHold, blocksHold};
-ghost use Rattle.memory.specs.Layout.{whichOf, limitsOf, memoryOk};
-ghost use Rattle.memory.specs.Decode.{handleOf, blockOf, slotsMade, arenaIn};
+ghost use Rattle.model.specs.Doc.{liveSlot, handleAt, parentIn};
+ghost use Rattle.model.specs.RulesTest.{implies, allOption, parentsHold, entriesHold, blocksHold};
+ghost use Rattle.memory.specs.Layout.{memoryOk};
+ghost use Rattle.memory.specs.Decode.{slotsMade};
 ghost use Rattle.entries.specs.Nodes.{decodeNodes, wordsHold};
 ghost use Rattle.entries.specs.Marks.{Pass, gathered};
-ghost use Rattle.entries.specs.Entering.{listNumber, kindList, enters, entriesEnter, slotsEntered, slotsListed, markedOnce};
-use crate::nodes::block_of;
+ghost use Rattle.entries.specs.Entering.{kindList, currentWord, parentWords, wordsEnter, listsEnter, slotsNamed, markedOnce};
 use crate::nodes::count;
 use crate::nodes::handle_of;
-use crate::nodes::is_current;
+use crate::nodes::has_no_parent;
 use crate::nodes::is_live;
-use crate::nodes::kind_of;
-use crate::nodes::parent_of;
 use memory::layout::Arena;
 use memory::layout::Document;
-use slots::Parent;
-use slots::Range;
+use memory::layout::arena_at;
+use memory::read::made;
 
 // A call in place of &&: no branch stands between the tests.
 fn both(a: bool, b: bool) -> bool
     ensures { λ r. ⌜ r ≡ (a && b) ⌝ }
 {
     if a { b } else { false }
-}
-
-fn is_parent(parent: Parent, owner: u64) -> bool
-    ensures { λ r. ⌜ r ≡ anyOption (eqb owner) (handleOf parent) ⌝ }
-{
-    match parent {
-        Parent::None => false,
-        Parent::Of(id) => owner == slots::handle::word_of(id),
-    }
-}
-
-fn arena_number(arena: Arena) -> u64
-    ensures { λ r. ⌜ r ≡ listNumber (whichOf arena) ⌝ }
-{
-    match arena {
-        Arena::Children => 0,
-        Arena::Attributes => 1,
-        Arena::Namespaces => 2,
-    }
 }
 
 // The list of its parent that a node of a kind stands in.
@@ -67,72 +43,79 @@ fn list_number(kind: u64) -> u64
     }
 }
 
-fn has_parent(d: Document, mem: &[u64], s: usize, owner: u64) -> bool
-    requires { ⌜ (memoryOk d (length (now mem)) ≡ true) × (liveSlot (decodeNodes d (now mem)) s ≡ true) ⌝ }
-    ensures { λ r. ⌜ r ≡ anyOption (eqb owner) (parentIn (decodeNodes d (now (mem .entry))) s) ⌝ }
+// Whether a handle resolves, by the slots' generations, which the memory starts with.
+fn is_current(mem: &[u64], made: usize, handle: u64) -> bool
+    requires { ⌜ made ≤ length (now mem) ⌝ }
+    ensures { λ r. ⌜ r ≡ currentWord made (now (mem .entry)) handle ⌝ }
 {
-    let parent = parent_of(d, mem, s);
-    is_parent(parent, owner)
+    let s = (handle % 4294967296) as usize;
+    if s >= made {
+        return false;
+    }
+    both(mem[s] % 2 == 0, mem[s] == handle / 4294967296)
 }
 
-fn stands_in(d: Document, mem: &[u64], s: usize, arena: Arena) -> bool
-    requires { ⌜ (memoryOk d (length (now mem)) ≡ true) × (liveSlot (decodeNodes d (now mem)) s ≡ true) ⌝ }
-    ensures { λ r. ⌜ r ≡ sameWhich (kinds.whichOf (kindIn (decodeNodes d (now (mem .entry))) s)) (whichOf arena) ⌝ }
+// Whether the record that starts at an index has owner as its parent.
+fn has_parent(mem: &[u64], at: usize, owner: u64) -> bool
+    requires { ⌜ at + 5 < length (now mem) ⌝ }
+    ensures { λ r. ⌜ r ≡ parentWords (now (mem .entry)) at owner ⌝ }
 {
-    let kind = kind_of(d, mem, s);
-    list_number(kind) == arena_number(arena)
+    both(
+        mem[at + 4] == owner % 4294967296 + 1,
+        mem[at + 5] == owner / 4294967296,
+    )
 }
 
 // Whether the word entry may stand in a list of the node whose handle is owner: it resolves, to a node of the list's kind with that parent.
-fn entry_holds(d: Document, mem: &[u64], arena: Arena, owner: u64, entry: u64) -> bool
-    requires { ⌜ (memoryOk d (length (now mem)) ≡ true) × (wordsHold d (now mem) ≡ true) ⌝ }
-    ensures { λ r. ⌜ r ≡ enters (decodeNodes d (now (mem .entry))) (whichOf arena) owner entry ⌝ }
+fn entry_holds(mem: &[u64], nodes: usize, made: usize, list: u64, owner: u64, entry: u64) -> bool
+    requires { ⌜ (15 * nodes ≤ length (now mem)) × (made ≤ nodes) ⌝ }
+    ensures { λ r. ⌜ r ≡ wordsEnter nodes made (now (mem .entry)) list owner entry ⌝ }
 {
-    if is_current(d, mem, entry) {
-        let s = (entry % 4294967296) as usize;
-        both(has_parent(d, mem, s, owner), stands_in(d, mem, s, arena))
+    if is_current(mem, made, entry) {
+        let at = nodes * 2 + (entry % 4294967296) as usize * 12;
+        both(has_parent(mem, at, owner), list_number(mem[at]) == list)
     } else {
         false
     }
 }
 
-// The entry at an index of an arena is tested and counted.
+// The entry is tested and counted.
 fn count_entry(
-    d: Document,
     mem: &[u64],
-    arena: Arena,
+    nodes: usize,
+    made: usize,
+    list: u64,
     owner: u64,
-    at: usize,
+    entry: u64,
     marks: &mut [u64],
 ) -> bool
-    requires { ⌜ (memoryOk d (length (now mem)) ≡ true) × (slotsMade d ≤ length (now marks)) × (at < limitsOf (d .limits) .entries (whichOf arena)) × (wordsHold d (now mem) ≡ true) ⌝ }
-    ensures { λ r. ⌜ Pass (slotsMade d) (enters (decodeNodes d (now (mem .entry))) (whichOf arena) owner (getD (arenaIn d (whichOf arena) (now (mem .entry)) .ids) at 0)) (handleIndex (getD (arenaIn d (whichOf arena) (now (mem .entry)) .ids) at 0) ∷ []) (now (marks .entry)) (now (marks .exit)) r ⌝ }
+    requires { ⌜ (15 * nodes ≤ length (now mem)) × (made ≤ nodes) × (made ≤ length (now marks)) ⌝ }
+    ensures { λ r. ⌜ Pass made (wordsEnter nodes made (now (mem .entry)) list owner entry) (handleIndex entry ∷ []) (now (marks .entry)) (now (marks .exit)) r ⌝ }
 {
-    let entry = memory::read::entry(d, mem, arena, at);
-    if entry_holds(d, mem, arena, owner, entry) {
+    if entry_holds(mem, nodes, made, list, owner, entry) {
         count(marks, (entry % 4294967296) as usize);
         return true;
     }
     false
 }
 
-// The entries of a block.
+// The entries of a block, len words from start on.
 fn count_block(
-    d: Document,
     mem: &[u64],
-    arena: Arena,
+    nodes: usize,
+    made: usize,
+    list: u64,
     owner: u64,
-    block: Range,
+    start: usize,
+    len: usize,
     marks: &mut [u64],
 ) -> bool
-    requires { ⌜ (memoryOk d (length (now mem)) ≡ true) × (slotsMade d ≤ length (now marks)) × (block .start + block .len ≤ limitsOf (d .limits) .entries (whichOf arena)) × (wordsHold d (now mem) ≡ true) ⌝ }
-    ensures { λ r. ⌜ Pass (slotsMade d) (all (enters (decodeNodes d (now (mem .entry))) (whichOf arena) owner) (listOf (arenaIn d (whichOf arena) (now (mem .entry))) (blockOf block))) (map handleIndex (listOf (arenaIn d (whichOf arena) (now (mem .entry))) (blockOf block))) (now (marks .entry)) (now (marks .exit)) r ⌝ }
+    requires { ⌜ (15 * nodes ≤ length (now mem)) × (made ≤ nodes) × (made ≤ length (now marks)) × (start + len ≤ length (now mem)) ⌝ }
+    ensures { λ r. ⌜ Pass made (all (wordsEnter nodes made (now (mem .entry)) list owner) (part start len (now (mem .entry)))) (map handleIndex (part start len (now (mem .entry)))) (now (marks .entry)) (now (marks .exit)) r ⌝ }
 {
-    let start = block.start;
-    let len = block.len;
     let mut k = 0;
-    while k < len as usize {
-        if !count_entry(d, mem, arena, owner, start as usize + k, marks) {
+    while k < len {
+        if !count_entry(mem, nodes, made, list, owner, mem[start + k], marks) {
             return false;
         }
         k += 1;
@@ -140,29 +123,70 @@ fn count_block(
     true
 }
 
-// The list of a slot in an arena, where the slot is live.
-fn count_list(d: Document, mem: &[u64], arena: Arena, s: usize, marks: &mut [u64]) -> bool
+// The list whose block stands at an index of the memory: its start in the arena, which starts at first, and its length.
+fn count_list(
+    mem: &[u64],
+    nodes: usize,
+    made: usize,
+    list: u64,
+    owner: u64,
+    at: usize,
+    first: usize,
+    marks: &mut [u64],
+) -> bool
+    requires { ⌜ (15 * nodes ≤ length (now mem)) × (made ≤ nodes) × (made ≤ length (now marks)) ⌝ }
+    requires { ⌜ (at + 1 < length (now mem)) × (first + getD (now mem) at 0 + getD (now mem) (at + 1) 0 ≤ length (now mem)) ⌝ }
+    ensures { λ r. ⌜ Pass made (all (wordsEnter nodes made (now (mem .entry)) list owner) (part (first + getD (now (mem .entry)) at 0) (getD (now (mem .entry)) (at + 1) 0) (now (mem .entry)))) (map handleIndex (part (first + getD (now (mem .entry)) at 0) (getD (now (mem .entry)) (at + 1) 0) (now (mem .entry)))) (now (marks .entry)) (now (marks .exit)) r ⌝ }
+{
+    let start = first + mem[at] as usize;
+    let len = mem[at + 1] as usize;
+    count_block(mem, nodes, made, list, owner, start, len, marks)
+}
+
+// The three lists of a live slot, whose handle is owner. Each has its numbers written out, so that none is looked up by the arena.
+fn count_node(d: Document, mem: &[u64], owner: u64, s: usize, marks: &mut [u64]) -> bool
+    requires { ⌜ (memoryOk d (length (now mem)) ≡ true) × (slotsMade d ≤ length (now marks)) × (blocksHold (decodeNodes d (now mem)) ≡ true) × (wordsHold d (now mem) ≡ true) ⌝ }
+    requires { ⌜ (liveSlot (decodeNodes d (now mem)) s ≡ true) × (owner ≡ handleAt (decodeNodes d (now mem)) s) ⌝ }
+    ensures { λ r. ⌜ Pass (slotsMade d) (listsEnter (decodeNodes d (now (mem .entry))) s) (slotsNamed (decodeNodes d (now (mem .entry))) s) (now (marks .entry)) (now (marks .exit)) r ⌝ }
+{
+    let l = d.limits;
+    let n = l.nodes;
+    let slots = made(d);
+    let at = n * 2 + s * 12;
+    let children = arena_at(l, Arena::Children);
+    if !count_list(mem, n, slots, 0, owner, at + 6, children, marks) {
+        return false;
+    }
+    let attributes = arena_at(l, Arena::Attributes);
+    if !count_list(mem, n, slots, 1, owner, at + 8, attributes, marks) {
+        return false;
+    }
+    let namespaces = arena_at(l, Arena::Namespaces);
+    count_list(mem, n, slots, 2, owner, at + 10, namespaces, marks)
+}
+
+// The lists of a slot, where it is live.
+fn count_slot(d: Document, mem: &[u64], s: usize, marks: &mut [u64]) -> bool
     requires { ⌜ (memoryOk d (length (now mem)) ≡ true) × (slotsMade d ≤ length (now marks)) × (s < slotsMade d) × (blocksHold (decodeNodes d (now mem)) ≡ true) × (wordsHold d (now mem) ≡ true) ⌝ }
-    ensures { λ r. ⌜ Pass (slotsMade d) (entriesEnter (decodeNodes d (now (mem .entry))) (whichOf arena) s) (slotsEntered (decodeNodes d (now (mem .entry))) (whichOf arena) s) (now (marks .entry)) (now (marks .exit)) r ⌝ }
+    ensures { λ r. ⌜ Pass (slotsMade d) (listsEnter (decodeNodes d (now (mem .entry))) s) (slotsNamed (decodeNodes d (now (mem .entry))) s) (now (marks .entry)) (now (marks .exit)) r ⌝ }
 {
     if is_live(d, mem, s) {
         let owner = handle_of(d, mem, s);
-        let block = block_of(d, mem, arena, s);
-        count_block(d, mem, arena, owner, block, marks)
+        count_node(d, mem, owner, s, marks)
     } else {
         true
     }
 }
 
-// The lists of all slots in an arena.
-fn count_arena(d: Document, mem: &[u64], arena: Arena, marks: &mut [u64]) -> bool
+// The lists of all slots.
+fn count_lists(d: Document, mem: &[u64], marks: &mut [u64]) -> bool
     requires { ⌜ (memoryOk d (length (now mem)) ≡ true) × (slotsMade d ≤ length (now marks)) × (blocksHold (decodeNodes d (now mem)) ≡ true) × (wordsHold d (now mem) ≡ true) ⌝ }
-    ensures { λ r. ⌜ Pass (slotsMade d) (allBelow (entriesEnter (decodeNodes d (now (mem .entry))) (whichOf arena)) (slotsMade d)) (gathered (slotsEntered (decodeNodes d (now (mem .entry))) (whichOf arena)) (slotsMade d)) (now (marks .entry)) (now (marks .exit)) r ⌝ }
+    ensures { λ r. ⌜ Pass (slotsMade d) (allBelow (listsEnter (decodeNodes d (now (mem .entry)))) (slotsMade d)) (gathered (slotsNamed (decodeNodes d (now (mem .entry)))) (slotsMade d)) (now (marks .entry)) (now (marks .exit)) r ⌝ }
 {
-    let n = memory::read::made(d);
+    let n = made(d);
     let mut i = 0;
     while i < n {
-        if !count_list(d, mem, arena, i, marks) {
+        if !count_slot(d, mem, i, marks) {
             return false;
         }
         i += 1;
@@ -170,37 +194,16 @@ fn count_arena(d: Document, mem: &[u64], arena: Arena, marks: &mut [u64]) -> boo
     true
 }
 
-// The lists of all slots in the three arenas.
-fn count_lists(d: Document, mem: &[u64], marks: &mut [u64]) -> bool
-    requires { ⌜ (memoryOk d (length (now mem)) ≡ true) × (slotsMade d ≤ length (now marks)) × (blocksHold (decodeNodes d (now mem)) ≡ true) × (wordsHold d (now mem) ≡ true) ⌝ }
-    ensures { λ r. ⌜ Pass (slotsMade d) (allWhich (λ w. allBelow (entriesEnter (decodeNodes d (now (mem .entry))) w) (slotsMade d))) (slotsListed (decodeNodes d (now (mem .entry))) (slotsMade d)) (now (marks .entry)) (now (marks .exit)) r ⌝ }
-{
-    if !count_arena(d, mem, Arena::Children, marks) {
-        return false;
-    }
-    if !count_arena(d, mem, Arena::Attributes, marks) {
-        return false;
-    }
-    count_arena(d, mem, Arena::Namespaces, marks)
-}
-
-// A node without a parent needs no entry.
-fn is_marked(parent: Parent, mark: u64) -> bool
-    ensures { λ r. ⌜ r ≡ allOption (λ _. eqb mark 1) (handleOf parent) ⌝ }
-{
-    match parent {
-        Parent::None => true,
-        Parent::Of(_) => mark == 1,
-    }
-}
-
+// A live node that was not counted once has no parent.
 fn entered_once(d: Document, mem: &[u64], s: usize, mark: u64) -> bool
     requires { ⌜ (memoryOk d (length (now mem)) ≡ true) × (s < slotsMade d) × (wordsHold d (now mem) ≡ true) ⌝ }
     ensures { λ r. ⌜ r ≡ implies (liveSlot (decodeNodes d (now (mem .entry))) s) (allOption (λ _. eqb mark 1) (parentIn (decodeNodes d (now (mem .entry))) s)) ⌝ }
 {
+    if mark == 1 {
+        return true;
+    }
     if is_live(d, mem, s) {
-        let parent = parent_of(d, mem, s);
-        is_marked(parent, mark)
+        has_no_parent(d, mem, s)
     } else {
         true
     }
@@ -211,7 +214,7 @@ fn all_entered(d: Document, mem: &[u64], marks: &[u64]) -> bool
     requires { ⌜ (memoryOk d (length (now mem)) ≡ true) × (slotsMade d ≤ length (now marks)) × (wordsHold d (now mem) ≡ true) ⌝ }
     ensures { λ r. ⌜ r ≡ allBelow (markedOnce (decodeNodes d (now (mem .entry))) (now (marks .entry))) (slotsMade d) ⌝ }
 {
-    let n = memory::read::made(d);
+    let n = made(d);
     let mut i = 0;
     while i < n {
         if !entered_once(d, mem, i, marks[i]) {

@@ -1,39 +1,31 @@
-// Rule 6: from each live slot parents are followed until there is none or one that is known to end, in as many steps as there are slots; then the slots
-// passed are marked as known, so that each is passed twice at most.
+// Rule 6: from each live slot whose parent is not known to end, parents are followed until there is none or one that is known, in as many steps as there are
+// slots; then the slots passed are marked as known, so that each is passed twice at most.
 ghost use mathlib.Core.Path.{_≡_};
 ghost use mathlib.Core.Bool.{true};
 ghost use Prim.Native.Nat.{_<_, _≤_};
 ghost use lib.ListN.{length, replicate};
-ghost use Rattle.slots.specs.Handles.{handleIndex};
-ghost use Rattle.model.specs.Doc.{liveSlot, mapOption, orElse};
+ghost use Rattle.model.specs.Doc.{liveSlot};
 ghost use Rattle.model.specs.Rules.{Ends};
 ghost use Rattle.model.specs.RulesTest.{parentsHold, parentsEndHolds};
 ghost use Rattle.memory.specs.Layout.{memoryOk};
-ghost use Rattle.memory.specs.Decode.{handleOf, slotsMade};
+ghost use Rattle.memory.specs.Decode.{slotsMade};
 ghost use Rattle.entries.specs.Nodes.{decodeNodes, wordsHold};
-ghost use Rattle.entries.specs.Paths.{parentSlot, Known, Followed, Passed};
+ghost use Rattle.entries.specs.Paths.{parentSlot, Known, knownSlot, Followed, Passed};
 use crate::nodes::is_live;
-use crate::nodes::parent_of;
+use crate::nodes::parent_word;
 use memory::layout::Document;
 use memory::read::made;
-use slots::Parent;
-
-fn slot_of(parent: Parent, past: usize) -> usize
-    ensures { λ r. ⌜ r ≡ orElse past (mapOption handleIndex (handleOf parent)) ⌝ }
-{
-    match parent {
-        Parent::None => past,
-        Parent::Of(id) => (slots::handle::word_of(id) % 4294967296) as usize,
-    }
-}
 
 // The slot of a live slot's parent, and the number of slots made where it has none.
 fn parent_slot(d: Document, mem: &[u64], slot: usize) -> usize
     requires { ⌜ (memoryOk d (length (now mem)) ≡ true) × (liveSlot (decodeNodes d (now mem)) slot ≡ true) ⌝ }
     ensures { λ r. ⌜ r ≡ parentSlot (decodeNodes d (now (mem .entry))) slot ⌝ }
 {
-    let parent = parent_of(d, mem, slot);
-    slot_of(parent, made(d))
+    let word = parent_word(d, mem, slot);
+    if word == 0 {
+        return made(d);
+    }
+    (word - 1) as usize
 }
 
 // Whether following parents from a live slot ends, or comes to a slot that is known.
@@ -73,18 +65,43 @@ fn mark_path(d: Document, mem: &[u64], known: &mut [u64], slot: usize)
     }
 }
 
-// Follows and marks the path of a slot, where it is live.
+// Follows and marks the path of a live slot.
+fn pass_path(d: Document, mem: &[u64], known: &mut [u64], slot: usize) -> bool
+    requires { ⌜ (memoryOk d (length (now mem)) ≡ true) × (slotsMade d ≤ length (now known)) × Known (decodeNodes d (now mem)) (now known) × (parentsHold (decodeNodes d (now mem)) ≡ true) × (liveSlot (decodeNodes d (now mem)) slot ≡ true) ⌝ }
+    ensures { λ r. ⌜ Passed (decodeNodes d (now (mem .entry))) slot (now (known .exit)) r ⌝ }
+{
+    if !follow(d, mem, known, slot) {
+        return false;
+    }
+    mark_path(d, mem, known, slot);
+    true
+}
+
+// Whether a slot is known to end: it is marked, or none that was made.
+fn is_known(known: &[u64], n: usize, slot: usize) -> bool
+    requires { ⌜ n ≤ length (now known) ⌝ }
+    ensures { λ r. ⌜ r ≡ knownSlot (now (known .entry)) n slot ⌝ }
+{
+    if slot >= n {
+        return true;
+    }
+    known[slot] != 0
+}
+
+// Passes a slot, where it is live. Nearly always its parent is known, and then nothing is followed.
 fn pass_slot(d: Document, mem: &[u64], known: &mut [u64], slot: usize) -> bool
     requires { ⌜ (memoryOk d (length (now mem)) ≡ true) × (slotsMade d ≤ length (now known)) × Known (decodeNodes d (now mem)) (now known) × (slot < slotsMade d) × (parentsHold (decodeNodes d (now mem)) ≡ true) × (wordsHold d (now mem) ≡ true) ⌝ }
     ensures { λ r. ⌜ Passed (decodeNodes d (now (mem .entry))) slot (now (known .exit)) r ⌝ }
 {
-    if is_live(d, mem, slot) {
-        if !follow(d, mem, known, slot) {
-            return false;
-        }
-        mark_path(d, mem, known, slot);
+    if !is_live(d, mem, slot) {
+        return true;
     }
-    true
+    let parent = parent_slot(d, mem, slot);
+    if is_known(known, made(d), parent) {
+        known[slot] = 1;
+        return true;
+    }
+    pass_path(d, mem, known, slot)
 }
 
 // Whether rule 6 holds, where rule 3 does, and rule 1 of the words. The marks, a word for each slot made, are all zero before, and anything after.

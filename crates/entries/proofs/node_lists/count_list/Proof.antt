@@ -1,51 +1,38 @@
 -- `entries::node_lists::count_list` meets its contract.
 -- Assumes nothing.
-use mathlib.Core.Path.{sym, _∙_}
-use Rattle.memory.specs.Layout.{whichOf}
-use Rattle.entries.proofs.Counting.{list-inside, list-counted, list-none}
-use borrow.Author.Needs.{needs}
+use native.Mathlib.Omega.{arith}
 use Rattle.entries.proofs.node_lists.count_list.Statement.{statement}
 use Rattle.entries.proofs.node_lists.count_list.Tie as tie
 
-is-live-requires : tie.Need-is-live-requires
-is-live-requires c κs = search needs
+mul-start : tie.Need-mul-start
+mul-start c = omega arith
 
-handle-of-requires : tie.Need-handle-of-requires
-handle-of-requires c κs = search needs
+shared-slice-read-start : tie.Need-shared-slice-read-start
+shared-slice-read-start c = omega (arith, c .before .before .before .pre .1 .0)
 
-block-of-requires : tie.Need-block-of-requires
-block-of-requires c κs =
-    let s = c .before .before .before .before .before in
-    (s .pre .0, sym (c .before .before .is-live .ensures) ∙ c .before .if1 .taken)
+add-start : tie.Need-add-start
+add-start c = omega (arith, c .before .before .before .pre .1 .1)
+
+add-len : tie.Need-add-len
+add-len c = omega (arith, c .before .before .before .pre .1 .0)
+
+mul-len : tie.Need-mul-len
+mul-len c = omega (arith, c .before .before .before .pre .1 .0)
+
+shared-slice-read-len : tie.Need-shared-slice-read-len
+shared-slice-read-len c = omega (arith, c .before .before .before .before .pre .1 .0)
 
 count-block-requires : tie.Need-count-block-requires
 count-block-requires c κs =
-    let s = c .before .before .before .before .before .before .before in
-    let a = s .args in
-    (s .pre .0, s .pre .1, list-inside (a .d) (a .mem .now) (whichOf (a .arena)) (a .s) (a .marks .now) _ (c .before .before .before .before .is-live .ensures) (c .before .before .before .if1 .taken) _ (c .before .block-of .ensures) (s .pre .0) (s .pre .3), s .pre .4)
+    let s = c .before .before .before .before .before .pre in
+    (s .0 .0, s .0 .1, s .0 .2, s .1 .1)
 
 same-length : tie.Need-same-length
-same-length c = search needs
+same-length c = c .before .before .count-block .kept .1 .1 .1 .1 .1 .1 .1 .0
 
 returns : tie.Need-returns
-returns c =
-    let a = c .before .before .before .before .before .before .before .before .before .before .args in
-    let r = c .before .before .before .before in
-    list-counted (a .d) (a .mem .now) (whichOf (a .arena)) (a .s) (a .marks .now) _ (r .before .before .before .is-live .ensures) (r .before .before .if1 .taken) _ (r .block-of .ensures) _ (r .before .handle-of .ensures) _ _ (c .before .before .count-block .ensures)
-
-returns-2 : tie.Need-returns-2
-returns-2 c =
-    let a = c .before .before .before .before .args in
-    list-none (a .d) (a .mem .now) (whichOf (a .arena)) (a .s) (a .marks .now) _ (c .before .is-live .ensures) (c .if1 .left)
+returns c = c .before .before .count-block .ensures
 
 pub count-list-spec : {M : Type 1} → statement M
 count-list-spec =
-    tie.close
-    (tie.spec
-    is-live-requires
-    handle-of-requires
-    block-of-requires
-    count-block-requires
-    same-length
-    returns
-    returns-2)
+    tie.close (tie.spec mul-start shared-slice-read-start add-start add-len mul-len shared-slice-read-len count-block-requires same-length returns)

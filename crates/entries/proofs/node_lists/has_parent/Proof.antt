@@ -1,20 +1,38 @@
 -- `entries::node_lists::has_parent` meets its contract.
 -- Assumes nothing.
-use mathlib.Core.Path.{_∙_, ap}
-use lib.Dec.{eqb}
-use Rattle.model.specs.Doc.{anyOption}
+use Rattle.entries.specs.Entering.{parentWords}
 use borrow.Author.Needs.{needs}
 use Rattle.entries.proofs.node_lists.has_parent.Statement.{statement}
 use Rattle.entries.proofs.node_lists.has_parent.Tie as tie
 
-parent-of-requires : tie.Need-parent-of-requires
-parent-of-requires c κs = search needs
+add-both : tie.Need-add-both
+add-both c = search needs
 
-is-parent-requires : tie.Need-is-parent-requires
-is-parent-requires c κs = search needs
+mul-both : tie.Need-mul-both
+mul-both c = search needs
+
+shared-slice-read-both : tie.Need-shared-slice-read-both
+shared-slice-read-both c = search needs
+
+add-both-2 : tie.Need-add-both-2
+add-both-2 c = search needs
+
+add-both-3 : tie.Need-add-both-3
+add-both-3 c = search needs
+
+mul-both-2 : tie.Need-mul-both-2
+mul-both-2 c = search needs
+
+shared-slice-read-both-2 : tie.Need-shared-slice-read-both-2
+shared-slice-read-both-2 c = search needs
+
+both-requires : tie.Need-both-requires
+both-requires c κs = search needs
 
 returns : tie.Need-returns
-returns c = c .is-parent .ensures ∙ ap (anyOption (eqb (c .before .before .before .args .owner))) (c .before .parent-of .ensures)
+unfolding parentWords
+returns c = c .both .ensures
 
 pub has-parent-spec : {M : Type 1} → statement M
-has-parent-spec = tie.close (tie.spec parent-of-requires is-parent-requires returns)
+has-parent-spec =
+    tie.close (tie.spec add-both mul-both shared-slice-read-both add-both-2 add-both-3 mul-both-2 shared-slice-read-both-2 both-requires returns)

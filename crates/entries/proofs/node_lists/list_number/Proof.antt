@@ -1,7 +1,7 @@
 -- `entries::node_lists::list_number` meets its contract.
 -- Assumes nothing.
 use Rattle.entries.specs.Entering.{kindList}
-use Rattle.entries.proofs.Counting.{list-of-child}
+use Rattle.entries.proofs.EntryWords.{list-of-child}
 use Rattle.entries.proofs.node_lists.list_number.Statement.{statement}
 use Rattle.entries.proofs.node_lists.list_number.Tie as tie
 

@@ -1,0 +1,19 @@
+-- `entries::nodes::parent_word` meets its contract.
+-- Assumes nothing.
+use native.Mathlib.Omega.{arith}
+use Rattle.entries.proofs.Words.{live-below}
+use borrow.Author.Needs.{needs}
+use Rattle.entries.proofs.nodes.parent_word.Statement.{statement}
+use Rattle.entries.proofs.nodes.parent_word.Tie as tie
+
+record-word-requires : tie.Need-record-word-requires
+record-word-requires c κs =
+    let s = c .before in
+    (s .pre .0, live-below (s .args .d) (s .args .mem .now) (s .args .s) (s .pre .1), omega arith)
+
+returns : tie.Need-returns
+returns c = search needs
+
+pub parent-word-spec : {M : Type 1} → statement M
+parent-word-spec =
+    tie.close (tie.spec record-word-requires returns)
