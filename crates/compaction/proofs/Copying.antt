@@ -23,10 +23,10 @@ use Rattle.model.specs.Rules.{hasRange}
 use Rattle.model.specs.Edits.{Laying, updateWhich, layList}
 use Rattle.memory.specs.declared.layout.Document.{Document}
 use Rattle.memory.specs.Layout.{limitsOf, entriesOf, arenaAt, documentWords, memoryOk}
-use Rattle.memory.specs.Decode.{kindOf, blockOf, rangeLoaded, loadedAt, slotsPart, arenaPart, slotsMade, arenaUsed, arenaIn, documentOf, poolIn, namesIn, lengthsAdd, decode}
+use Rattle.memory.specs.Decode.{kindOf, blockOf, loadedAt, slotsPart, arenaPart, slotsMade, arenaUsed, arenaIn, documentOf, poolIn, namesIn, lengthsAdd, decode}
 use Rattle.memory.specs.Writing.{putSlots, putArena, putRange, setRange}
 use Rattle.memory.proofs.Limits.{sizes}
-use Rattle.memory.proofs.Columns.{live-made, live-none, range-in, kind-found}
+use Rattle.memory.proofs.Columns.{live-made, live-none, kind-found}
 use Rattle.memory.proofs.Shaped.{length-slotsPart, length-arenaPart, length-ids}
 use Rattle.memory.proofs.Written.{sameWhich-true, length-putSlots, arenaPart-putSlots, length-putArena, slotsPart-putArena, arenaPart-putArena, arenaPart-putArena-other, memory-kept}
 use Rattle.memory.proofs.Past.{slots-past, arena-past}
@@ -121,10 +121,7 @@ module _ (d : Document) (mem : List ℕ) (w : Which) (s : ℕ) (used : Lengths) 
   pub narrow : entriesOf (d .limits) w ≤ 262144
   narrow = let z = sizes d (length mem) (L .memory) in z .entries w
 
-  module _ (r : Range) (eb : blockOf r ≡ rangeLoaded w (loadedAt (d .limits .nodes) (slotsPart d mem) s)) where
-    block-is : blockOf r ≡ rangeIn (decode d mem) w s
-    block-is = eb ∙ sym (range-in (poolIn d mem) (namesIn d mem) (lengthsAdd d mem) d mem s slot-made w)
-
+  module _ (r : Range) (block-is : blockOf r ≡ rangeIn (decode d mem) w s) where
     start-is : r .start ≡ rangeIn (decode d mem) w s .start
     start-is = ap (λ (b : Block). b .start) block-is
 

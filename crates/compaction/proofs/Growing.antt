@@ -82,7 +82,7 @@ module _ (d : Document) (o : List ℕ) (F : FromRules d o) where
           let L = node-layable children refl in
           record {
             memory = memory-ok;
-            slot = live-made (poolIn d mem) (namesIn d mem) (lengthsAdd d mem) d mem (handleIndex x) (L .live);
+            live = L .live;
             inside = L .inside;
           }
 

@@ -3,7 +3,7 @@
 use mathlib.Core.Path.{_≡_, refl, sym, ap, _∙_, subst}
 use mathlib.Core.Bool.{Bool, true, false, cond}
 use mathlib.Core.List.{List}
-use Prim.Native.Nat.{ℕ, _<_}
+use Prim.Native.Nat.{ℕ}
 use native.Mathlib.Omega.{arith}
 use lib.ListN.{length, getD}
 use Rattle.words.specs.Parts.{part}
@@ -16,8 +16,7 @@ use Rattle.model.specs.Rules.{hasRange}
 use Rattle.model.specs.Edits.{Laying, layList}
 use Rattle.memory.specs.declared.layout.Document.{Document}
 use Rattle.memory.specs.Layout.{memoryOk}
-use Rattle.memory.specs.Decode.{arenaIn, slotsMade, poolIn, namesIn, lengthsAdd, decode}
-use Rattle.memory.proofs.Columns.{live-made}
+use Rattle.memory.specs.Decode.{arenaIn, decode}
 use Rattle.compaction.specs.declared.copy.Lengths.{Lengths}
 use Rattle.compaction.specs.Copies.{lengthOf, withBlocks, copiesIn, Copies, Layable, NodeLayable, listLaid, nodeLaid}
 
@@ -127,8 +126,8 @@ module _ (d : Document) (mem : List ℕ) (h : ℕ) (used : Lengths) (N : NodeLay
     pub first-ok : memoryOk d (length m₁) ≡ true
     first-ok = ap (memoryOk d) (C₁ .size) ∙ children-layable .memory
 
-    pub first-made : s < slotsMade d
-    first-made = live-made (poolIn d mem) (namesIn d mem) (lengthsAdd d mem) d mem s (children-layable .live)
+    pub first-live : liveSlot (decode d m₁) s ≡ true
+    first-live = live-kept d mem m₁ u₁ (listLaid D A children s) C₁ s ∙ children-layable .live
 
     module _ (t : Bool) (q : t ≡ isElement (kindIn (decode d m₁) s)) where
       kind-is : t ≡ isElement (kindAt (decode d mem) h)

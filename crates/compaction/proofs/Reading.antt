@@ -2,53 +2,42 @@
 -- Assumes nothing.
 use mathlib.Core.Path.{_≡_, sym, ap, _∙_}
 use mathlib.Core.Bool.{Bool, true, false, _&&_}
-use mathlib.Core.Option.{Option}
+use mathlib.Core.Option.{none}
 use mathlib.Core.List.{List}
 use Prim.Native.Nat.{ℕ, _+_, _*_, _%_, _≤_, _<_}
 use native.Mathlib.Omega.{arith}
+use lib.ListN.{getD}
 use lib.Dec.{eqb}
 use Rattle.slots.specs.Regions.{generationAt}
-use Rattle.slots.specs.declared.Node.{Node}
-use Rattle.slots.specs.declared.Loaded.{Loaded}
-use Rattle.slots.specs.declared.Loaded.the-variants.{Found, NoNode}
-use Rattle.model.specs.Kinds.{Kind, root, isElement}
-use Rattle.model.specs.Doc.{liveSlot, handleAt, kindIn, parentIn, isSome, isNone, orElse}
+use Rattle.model.specs.Doc as doc
+use Rattle.model.specs.Doc.{even, liveSlot, handleAt, parentIn, isSome, isNone}
 use Rattle.memory.specs.declared.layout.Document.{Document}
-use Rattle.memory.specs.Decode.{kindOf, handleOf, kindLoaded, loadedAt, slotsPart, slotsMade, poolIn, namesIn, lengthsAdd, decode}
+use Rattle.memory.specs.Decode.{slotsPart, slotsMade, poolIn, namesIn, lengthsAdd, decode}
 use Rattle.memory.specs.Layout.{memoryOk}
 use Rattle.memory.proofs.Limits.{sizes}
 use Rattle.memory.proofs.Steps.{loaded-as}
-use Rattle.memory.proofs.Columns.{kind-column, kind-found, parent-found, live-found, live-in, live-none, live-made, handle-in}
+use Rattle.memory.proofs.Columns.{generation-in, live-made, handle-in}
+use Rattle.compaction.specs.Copies.{NodesEven}
 use Rattle.compaction.proofs.Copying.{node-in}
 
-module _ (d : Document) (mem : List ℕ) (s : ℕ) (made : s < slotsMade d) (l : Loaded) (e : l ≡ loadedAt (d .limits .nodes) (slotsPart d mem) s) where
-  pub element-found : (m : Node) → l ≡ Found m → (t : Bool) → t ≡ isElement (kindOf (m .«data»)) → t ≡ isElement (kindIn (decode d mem) s)
-  element-found m q t r = r ∙ ap isElement (sym (kind-found (poolIn d mem) (namesIn d mem) (lengthsAdd d mem) d mem s made m (sym e ∙ q)))
+-- whether it is live and has no parent
+module _ (d : Document) (mem : List ℕ) (s : ℕ) (made : s < slotsMade d) (g : ℕ) (f : g ≡ generationAt (d .limits .nodes) (slotsPart d mem) s) where
+  even-is : even (doc.generationAt (decode d mem) s) ≡ eqb (g % 2) 0
+  even-is = ap even (generation-in (poolIn d mem) (namesIn d mem) (lengthsAdd d mem) d mem s made) ∙ ap (λ (k : ℕ). eqb (k % 2) 0) (sym f)
 
-  pub element-none : l ≡ NoNode → false ≡ isElement (kindIn (decode d mem) s)
-  element-none q =
-      sym (ap (λ (o : Option (Kind ℕ (Option ℕ))). isElement (orElse root o)) (kind-column (poolIn d mem) (namesIn d mem) (lengthsAdd d mem) d mem s made ∙ ap kindLoaded (sym e ∙ q)))
+  pub even-live : NodesEven (decode d mem) → eqb (g % 2) 0 ≡ true → liveSlot (decode d mem) s ≡ true
+  even-live N y =
+      let e : even (doc.generationAt (decode d mem) s) ≡ true = even-is ∙ y in
+      rw (e, N s e)
 
-  -- whether it is live and has no parent
-  module _ (g : ℕ) (f : g ≡ generationAt (d .limits .nodes) (slotsPart d mem) s) where
-    pub top-even : (m : Node) → l ≡ Found m → eqb (g % 2) 0 ≡ true → (r : Bool) → r ≡ isNone (handleOf (m .parent))
-        → r ≡ (liveSlot (decode d mem) s && isNone (parentIn (decode d mem) s))
-    top-even m q y r z =
-        let live : liveSlot (decode d mem) s ≡ true =
-        live-found (poolIn d mem) (namesIn d mem) (lengthsAdd d mem) d mem s made m (sym e ∙ q) ∙ ap (λ (k : ℕ). eqb (k % 2) 0) (sym f) ∙ y in
-        z
-        ∙ ap isNone (sym (parent-found (poolIn d mem) (namesIn d mem) (lengthsAdd d mem) d mem s made m (sym e ∙ q)))
-        ∙ sym (ap (λ (k : Bool). k && isNone (parentIn (decode d mem) s)) live)
+  pub top-even : liveSlot (decode d mem) s ≡ true → (r : Bool) → r ≡ isNone (parentIn (decode d mem) s) → r ≡ (liveSlot (decode d mem) s && isNone (parentIn (decode d mem) s))
+  top-even l r e = e ∙ sym (ap (λ (k : Bool). k && isNone (parentIn (decode d mem) s)) l)
 
-    pub top-odd : eqb (g % 2) 0 ≡ false → false ≡ (liveSlot (decode d mem) s && isNone (parentIn (decode d mem) s))
-    top-odd y =
-        let odd : liveSlot (decode d mem) s ≡ false =
-        live-in (poolIn d mem) (namesIn d mem) (lengthsAdd d mem) d mem s made
-        ∙ ap (λ (k : Bool). k && isSome (kindLoaded (loadedAt (d .limits .nodes) (slotsPart d mem) s))) (ap (λ (k : ℕ). eqb (k % 2) 0) (sym f) ∙ y) in
-        sym (ap (λ (k : Bool). k && isNone (parentIn (decode d mem) s)) odd)
-
-  pub top-none : l ≡ NoNode → false ≡ (liveSlot (decode d mem) s && isNone (parentIn (decode d mem) s))
-  top-none q = sym (ap (λ (k : Bool). k && isNone (parentIn (decode d mem) s)) (live-none (poolIn d mem) (namesIn d mem) (lengthsAdd d mem) d mem s made (sym e ∙ q)))
+  pub top-odd : eqb (g % 2) 0 ≡ false → false ≡ (liveSlot (decode d mem) s && isNone (parentIn (decode d mem) s))
+  top-odd y =
+      let odd : liveSlot (decode d mem) s ≡ false =
+      ap (λ (k : Bool). k && isSome (getD (decode d mem .kinds) s none)) (even-is ∙ y) in
+      sym (ap (λ (k : Bool). k && isNone (parentIn (decode d mem) s)) odd)
 
 pub nodes-few : (d : Document) (mem : ℕ) → memoryOk d mem ≡ true → d .limits .nodes ≤ 65536
 nodes-few d mem ok = sizes d mem ok .nodes

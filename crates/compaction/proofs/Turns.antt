@@ -25,7 +25,7 @@ use Rattle.memory.proofs.Limits.{limits-fit, memory-limits, sizes}
 use Rattle.memory.proofs.Shaped.{length-arenaPart, length-ids, length-caps}
 use Rattle.walks.specs.Order.{ListHeld}
 use Rattle.compaction.specs.declared.copy.Lengths.{Lengths}
-use Rattle.compaction.specs.Copies.{lengthOf, noLengths, copiesIn, Copies, NodeLayable, nodeLaid, TreesLaid, TreeAhead, NextLaid}
+use Rattle.compaction.specs.Copies.{lengthOf, noLengths, copiesIn, Copies, NodeLayable, nodeLaid, NodesEven, TreesLaid, TreeAhead, NextLaid}
 use Rattle.compaction.proofs.Growing as growing
 use Rattle.compaction.proofs.Growing.{FromRules, Growing, Started, made-few}
 use Rattle.compaction.proofs.MetNodes.{rebuilt-skip}
@@ -38,6 +38,9 @@ module _ (d : Document) (o mem : List ℕ) (s : ℕ) (used : Lengths) (T : Trees
 
   pub trees-ok : memoryOk d (length mem) ≡ true
   trees-ok = ap (memoryOk d) (T .copies .size) ∙ T .memory
+
+  pub nodes-even : NodesEven (decode d mem)
+  nodes-even = subst NodesEven (sym (T .copies .document)) (T .rules .fields .nodes)
 
   pub live-before : liveSlot (decode d mem) s ≡ liveSlot (decode d o) s
   live-before = ap (λ (x : Doc). liveSlot x s) (T .copies .document)

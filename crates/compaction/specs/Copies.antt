@@ -4,13 +4,13 @@ use mathlib.Core.Bool.{true, false, cond}
 use mathlib.Core.List.{List, [], _∷_}
 use mathlib.Core.Option.{none}
 use Prim.Native.Nat.{ℕ, suc, _+_, _≤_}
-use lib.ListN.{length, drop}
+use lib.ListN.{length, getD, drop}
 use Rattle.words.specs.Lists.{joined, keep, tabulate}
 use Rattle.blocks.specs.Arena.{Arena, Block, arenaWords}
 use Rattle.blocks.specs.Compact.{copied, BlockCopied}
 use Rattle.slots.specs.Handles.{handleIndex}
 use Rattle.model.specs.Kinds.{Which, children, attributes, namespaces, isElement}
-use Rattle.model.specs.Doc.{Doc, liveSlot, handleAt, kindIn, kindAt, parentIn, parentAt, rangeIn, listIn, listAt, isNone, hasList}
+use Rattle.model.specs.Doc.{Doc, generationAt, liveSlot, handleAt, kindIn, kindAt, parentIn, parentAt, rangeIn, listIn, listAt, even, isNone, isSome, hasList}
 use Rattle.model.specs.Rules.{Rules, hasRange}
 use Rattle.model.specs.Edits.{Laying, updateWhich, walk, layList, layAll, layingFrom}
 use Rattle.memory.specs.declared.layout.Counts.{Counts}
@@ -115,6 +115,10 @@ abbrev pub lengthsRebuilt : Document → Lengths → Document
 lengthsRebuilt d used = recordWith d (countsRebuilt (d .counts) used) false
 
 -- ---- the trees of the first slots
+
+-- of rule 1: a slot of an even generation has a node
+abbrev pub NodesEven : Doc → Type 0
+NodesEven d = (i : ℕ) → even (generationAt d i) ≡ true → isSome (getD (d .kinds) i none) ≡ true
 
 -- the live nodes without a parent in the first n slots, and the nodes of their trees
 abbrev pub topsBelow : Doc → ℕ → List ℕ

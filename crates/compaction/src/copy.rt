@@ -1,22 +1,18 @@
 // Lists copied behind one another into the capacity words of their arenas, each with its owner's new range.
 ghost use mathlib.Core.Path.{_≡_};
 ghost use mathlib.Core.Bool.{true};
-ghost use Prim.Native.Nat.{_+_, _≤_, _<_};
+ghost use Prim.Native.Nat.{_+_, _≤_};
 ghost use lib.ListN.{length};
-ghost use Rattle.model.specs.Kinds.{isElement};
-ghost use Rattle.model.specs.Doc.{kindIn};
 ghost use Rattle.memory.specs.Layout.{whichOf, entriesOf, memoryOk};
-ghost use Rattle.memory.specs.Decode.{kindOf, slotsMade, decode};
+ghost use Rattle.memory.specs.Decode.{decode};
 ghost use Rattle.compaction.specs.Copies.{lengthOf, withLength, copiesIn, Copies, ArenaCopied, Layable, NodeLayable, listLaid, nodeLaid};
-use memory::entries::block_of;
+use memory::fields::is_element;
+use memory::fields::live_block;
+use memory::fields::put_block;
 use memory::layout::Arena;
 use memory::layout::Document;
 use memory::layout::arena_at;
 use memory::layout::arena_limit;
-use memory::read::load;
-use memory::write::put_range;
-use slots::Loaded;
-use slots::NodeData;
 use slots::NodeSlot;
 use slots::Range;
 use walks::order::slot_of;
@@ -84,45 +80,16 @@ fn lay_list(d: Document, mem: &mut [u64], slot: NodeSlot, arena: Arena, used: Le
     requires { ⌜ Layable d (now mem) (whichOf arena) (slot .0) (lengthOf used (whichOf arena)) ⌝ }
     ensures { λ r. ⌜ Copies d (now (mem .entry)) (now (mem .exit)) r (listLaid (decode d (now (mem .entry))) (copiesIn d (now (mem .entry)) used) (whichOf arena) (slot .0)) ⌝ }
 {
-    let block = block_of(d, &mem[..], slot, arena);
+    let number = slot.0;
+    let block = live_block(d, &mem[..], number as usize, arena);
     let start = length_in(used, arena);
     copy_block(d, mem, arena, start, block);
     let range = Range {
         start: start as u32,
         len: block.len,
     };
-    put_range(d, mem, slot, arena, range);
+    put_block(d, mem, number as usize, arena, range);
     with_length(used, arena, start + block.len as usize)
-}
-
-// Whether a node is an element.
-fn is_element(data: NodeData) -> bool
-    ensures { λ r. ⌜ r ≡ isElement (kindOf «data») ⌝ }
-{
-    match data {
-        NodeData::Root => false,
-        NodeData::Element { .. } => true,
-        NodeData::Attr { .. } => false,
-        NodeData::Text(_) => false,
-        NodeData::Comment(_) => false,
-        NodeData::Namespace { .. } => false,
-        NodeData::ProcessingInstruction { .. } => false,
-    }
-}
-
-// Whether an element is in a slot.
-fn holds_element(d: Document, mem: &[u64], slot: NodeSlot) -> bool
-    requires { ⌜ (memoryOk d (length (now mem)) ≡ true) × (slot .0 < slotsMade d) ⌝ }
-    ensures { λ r. ⌜ r ≡ isElement (kindIn (decode d (now (mem .entry))) (slot .0)) ⌝ }
-{
-    let loaded = load(d, mem, slot);
-    match loaded {
-        Loaded::Found(node) => {
-            let data = node.data;
-            is_element(data)
-        }
-        Loaded::NoNode => false,
-    }
 }
 
 // Lays the lists of the node of a handle: attributes and namespaces only elements have.
@@ -131,8 +98,9 @@ pub fn lay_node(d: Document, mem: &mut [u64], word: u64, used: Lengths) -> Lengt
     ensures { λ r. ⌜ Copies d (now (mem .entry)) (now (mem .exit)) r (nodeLaid (decode d (now (mem .entry))) (copiesIn d (now (mem .entry)) used) word) ⌝ }
 {
     let slot = slot_of(word);
+    let number = slot.0;
     let children = lay_list(d, mem, slot, Arena::Children, used);
-    if holds_element(d, &mem[..], slot) {
+    if is_element(d, &mem[..], number as usize) {
         let attributes = lay_list(d, mem, slot, Arena::Attributes, children);
         lay_list(d, mem, slot, Arena::Namespaces, attributes)
     } else {

@@ -7,45 +7,31 @@ ghost use lib.ListN.{length};
 ghost use Rattle.model.specs.Doc.{liveSlot, handleAt, parentIn, isNone};
 ghost use Rattle.model.specs.Rules.{Rules};
 ghost use Rattle.memory.specs.Layout.{memoryOk};
-ghost use Rattle.memory.specs.Decode.{handleOf, slotsMade, decode};
-ghost use Rattle.compaction.specs.Copies.{TreesLaid, TreeAhead, NextLaid};
+ghost use Rattle.memory.specs.Decode.{slotsMade, decode};
+ghost use Rattle.compaction.specs.Copies.{NodesEven, TreesLaid, TreeAhead, NextLaid};
 use crate::copy::Lengths;
 use crate::copy::lay_node;
+use memory::fields::has_no_parent;
 use memory::layout::Arena;
 use memory::layout::Document;
 use memory::read::generation;
-use memory::read::load;
 use memory::read::made;
-use slots::Loaded;
 use slots::NodeSlot;
-use slots::Parent;
 use walks::list::list_of;
 use walks::list::push_reversed;
 use walks::order::slot_of;
 
-// Whether there is no parent.
-fn is_none(parent: Parent) -> bool
-    ensures { λ r. ⌜ r ≡ isNone (handleOf parent) ⌝ }
-{
-    match parent {
-        Parent::None => true,
-        Parent::Of(_) => false,
-    }
-}
-
-// Whether a live node without a parent is in a slot.
+// Whether a live node without a parent is in a slot, where each slot of an even generation has a node.
 fn is_top(d: Document, mem: &[u64], slot: NodeSlot) -> bool
-    requires { ⌜ (memoryOk d (length (now mem)) ≡ true) × (slot .0 < slotsMade d) ⌝ }
+    requires { ⌜ (memoryOk d (length (now mem)) ≡ true) × (slot .0 < slotsMade d) × NodesEven (decode d (now mem)) ⌝ }
     ensures { λ r. ⌜ r ≡ (liveSlot (decode d (now (mem .entry))) (slot .0) && isNone (parentIn (decode d (now (mem .entry))) (slot .0))) ⌝ }
 {
     let even = generation(d, mem, slot) % 2 == 0;
-    let loaded = load(d, mem, slot);
-    match loaded {
-        Loaded::Found(node) => {
-            let parent = node.parent;
-            if even { is_none(parent) } else { false }
-        }
-        Loaded::NoNode => false,
+    let number = slot.0;
+    if even {
+        has_no_parent(d, mem, number as usize)
+    } else {
+        false
     }
 }
 

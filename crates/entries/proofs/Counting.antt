@@ -12,7 +12,7 @@ use lib.Dec.{eqb}
 use borrow.Author.Tests.{ne-eqb}
 use Rattle.words.specs.Parts.{part}
 use Rattle.words.specs.Lists.{all, allBelow}
-use Rattle.words.proofs.Parts.{length-part, getD-part, take-part, part-part}
+use Rattle.words.proofs.Parts.{length-part, getD-part}
 use Rattle.blocks.specs.Arena.{block, capOf}
 use Rattle.slots.specs.Handles.{handleIndex}
 use Rattle.model.specs.Kinds.{Which, children, attributes, namespaces}
@@ -23,9 +23,10 @@ use Rattle.model.proofs.RulesTestEntries.{parents-of-test}
 use Rattle.model.proofs.RulesTestBlocks.{blocks-of-test}
 use Rattle.memory.specs.declared.layout.Document.{Document}
 use Rattle.memory.specs.Layout.{entriesOf, limitsOf, arenaAt, memoryOk}
-use Rattle.memory.specs.Decode.{slotsMade, arenaIn}
+use Rattle.memory.specs.Decode.{slotsMade}
 use Rattle.memory.proofs.Columns as columns
 use Rattle.memory.proofs.Limits.{sizes}
+use Rattle.memory.proofs.Reading.{entries-read}
 use Rattle.memory.proofs.Shaped.{length-ids, shape}
 use Rattle.entries.specs.Nodes.{noTexts, decodeNodes, wordsHold, recordWord, blockAt}
 use Rattle.entries.specs.Marks.{raised, Counted, Pass, Adds, gathered}
@@ -146,9 +147,7 @@ module _ (d : Document) (mem : List ℕ) (s : ℕ) (ok : memoryOk d (length mem)
     entries-here : part (first + getD mem at 0) (getD mem (at + 1) 0) mem ≡ entriesIn D a s
     unfolding entriesIn
     entries-here =
-        let A = arenaAt (limitsOf (d .limits)) a in
-        let e : arenaIn d a mem .ids ≡ part A (entriesOf (d .limits) a) mem = take-part mem A (2 * entriesOf (d .limits) a) (entriesOf (d .limits) a) (omega arith) in
-        rw (l, ← block-read, e, f) (sym (part-part mem A (entriesOf (d .limits) a) (getD mem at 0) (getD mem (at + 1) 0) inside-arena))
+        rw (l, ← block-read) (sym (entries-read d a mem first (getD mem at 0) (getD mem (at + 1) 0) f inside-arena))
 
     pub list-passed : wordsHold d mem ≡ true → (m owner : ℕ) → m ≡ slotsMade d → owner ≡ handleAt (decodeNodes d mem) s → (before after : List ℕ) (u : Bool)
         → Pass m (all (wordsEnter (d .limits .nodes) m mem (listNumber a) owner) (part (first + getD mem at 0) (getD mem (at + 1) 0) mem)) (map handleIndex (part (first + getD mem at 0) (getD mem (at + 1) 0) mem)) before after u

@@ -3,7 +3,7 @@ ghost use mathlib.Core.Path.{_≡_};
 ghost use mathlib.Core.Bool.{true};
 ghost use Prim.Native.Nat.{_<_};
 ghost use lib.ListN.{length, getD, set};
-ghost use Rattle.model.specs.Doc.{handleAt, isNone, liveSlot, resolves, kindIn, parentIn, rangeIn};
+ghost use Rattle.model.specs.Doc.{handleAt, liveSlot, resolves, kindIn, parentIn, rangeIn};
 ghost use Rattle.memory.specs.Layout.{memoryOk, whichOf};
 ghost use Rattle.memory.specs.Decode.{blockOf, handleOf, slotOf, slotsMade};
 ghost use Rattle.entries.specs.Nodes.{decodeNodes, wordsHold, recordWord, blockAt, kindNumber, nameNumber, firstSlot, secondSlot};
@@ -96,13 +96,6 @@ pub fn parent_word(d: Document, mem: &[u64], s: usize) -> u64
     ensures { λ r. ⌜ r ≡ recordWord d (now (mem .entry)) s 4 ⌝ }
 {
     record_word(d, mem, s, 4)
-}
-
-pub fn has_no_parent(d: Document, mem: &[u64], s: usize) -> bool
-    requires { ⌜ (memoryOk d (length (now mem)) ≡ true) × (liveSlot (decodeNodes d (now mem)) s ≡ true) ⌝ }
-    ensures { λ r. ⌜ r ≡ isNone (parentIn (decodeNodes d (now (mem .entry))) s) ⌝ }
-{
-    parent_word(d, mem, s) == 0
 }
 
 // Where the block in an arena stands in a record.

@@ -1,8 +1,9 @@
 -- A turn of `free_nodes`: the top of the stack has its lists pushed, then it is freed.
 -- Assumes nothing.
 use mathlib.Core.Path.{_≡_, refl, sym, ap, _∙_, subst}
-use mathlib.Core.Bool.{true}
-use mathlib.Core.List.{List, [], _∷_, _++_, map, reverse, append-assoc, append-nil, List·Memᴰ, List·Memᴰ·head, Memᴰ·append-right}
+use mathlib.Core.Bool.{true, _&&_}
+use mathlib.Core.Option.{none}
+use mathlib.Core.List.{List, [], _∷_, _++_, map, reverse, append-assoc, append-nil, List·Memᴰ, List·Memᴰ·head, Memᴰ·append-left, Memᴰ·append-right}
 use Prim.Native.Nat.{ℕ, zero, suc, _+_, _-_, _≤_, _<_}
 use native.Mathlib.Omega.{arith}
 use lib.Dec.{eqb}
@@ -16,10 +17,10 @@ use Rattle.blocks.specs.Arena.{Block}
 use Rattle.blocks.proofs.Capacities.{capacity-least}
 use Rattle.slots.specs.Handles.{handleIndex}
 use Rattle.model.specs.Kinds.{Which, children, attributes, namespaces}
-use Rattle.model.specs.Doc.{Doc, resolves, parentAt, rangeIn, listIn}
+use Rattle.model.specs.Doc.{Doc, even, isSome, liveSlot, resolves, parentAt, rangeIn, listIn}
 use Rattle.model.specs.Edits.{walk, pushedBy, subtree, freeAll}
-use Rattle.model.proofs.Basics.{mem-count, live-below}
-use Rattle.model.proofs.Freeing.{length-raisedAll}
+use Rattle.model.proofs.Basics.{mem-count}
+use Rattle.model.proofs.Freeing.{slotsOf, raisedAll-other}
 use Rattle.memory.specs.declared.layout.Limits.{Limits}
 use Rattle.memory.specs.declared.layout.Document.{Document}
 use Rattle.memory.specs.Layout.{limitsOf, memoryOk}
@@ -41,7 +42,7 @@ use Rattle.freeing.proofs.AllFreed.{freeAll-none, freeAll-next, next-fr
 use Rattle.freeing.proofs.Room.{all-freeable, all-reclaimable}
 use Rattle.freeing.proofs.Visited.{Met, met-first, met-next}
 
--- freeing changes no list, and makes no slot
+-- freeing changes no list
 range-freed : (D : Doc) (l : List ℕ) (w : Which) (s : ℕ) → rangeIn (freeAllSlots D l) w s ≡ rangeIn D w s
 unfolding freeAll setPool
 range-freed D l w s = refl
@@ -50,9 +51,10 @@ list-freed : (D : Doc) (l : List ℕ) (w : Which) (s : ℕ) → listIn (freeAllS
 unfolding freeAll setPool
 list-freed D l w s = refl
 
-slots-freed : (D : Doc) (l : List ℕ) → length (freeAllSlots D l .gens) ≡ length (D .gens)
+-- nor does it change a slot that is not freed
+live-freed : (D : Doc) (l : List ℕ) (s : ℕ) → (List·Memᴰ s (slotsOf l) → ⊥) → liveSlot (freeAllSlots D l) s ≡ liveSlot D s
 unfolding freeAll setPool
-slots-freed D l = length-raisedAll l (D .gens)
+live-freed D l s n = ap (λ (g : ℕ). even g && isSome (getD (D .kinds) s none)) (raisedAll-other l (D .gens) s n)
 
 module _ (d : Document) (mem₀ : List ℕ) (h : ℕ) where
   abbrev D : Doc
@@ -135,15 +137,25 @@ module _ (d : Document) (mem₀ : List ℕ) (h : ℕ) where
       module _ (s : ℕ) (e : s ≡ handleIndex (getD stack (height - 1) 0)) where
         -- ---- its lists
 
-        slot-made : s < slotsMade document
-        slot-made =
-            omega (
+        -- a handle is freed once, so its slot is not free yet
+        not-freed : List·Memᴰ s (slotsOf (F .done)) → ⊥
+        not-freed q =
+            let o = mem-map-cases handleIndex (F .done) q in
+            let y : o .0 ≡ word = same-index D (o .0) word (top-live (o .0) (Memᴰ·append-left (word ∷ []) (o .1))) word-live (sym (o .2) ∙ e) in
+            absurd (omega (
               arith,
-              live-below D (handleIndex word) (live-of D word word-live),
-              slots-freed D (F .done),
-              ap (λ (x : Doc). length (x .gens)) (F .step .document),
-              length-gens (poolIn document mem) (namesIn document mem) (lengthsAdd document mem) document mem,
-            )
+              mem-count word (F .done) (subst (λ (x : ℕ). List·Memᴰ x (F .done)) y (o .1)),
+              mem-count word (word ∷ []) (List·Memᴰ·head refl),
+              countOf-append (eqb word) (F .done) (word ∷ []),
+              top-once word,
+            ))
+
+        slot-live : liveSlot (decode document mem) s ≡ true
+        slot-live =
+            ap (λ (x : Doc). liveSlot x s) (F .step .document)
+            ∙ live-freed D (F .done) s not-freed
+            ∙ ap (liveSlot D) e
+            ∙ live-of D word word-live
 
         pub lists-held : (w : Which) → ListHeld document mem w s
         lists-held w =
@@ -154,7 +166,7 @@ module _ (d : Document) (mem₀ : List ℕ) (h : ℕ) where
             ap (rangeIn D w) (sym e) ∙ sym (range-freed D (F .done) w s) ∙ ap (λ (x : Doc). rangeIn x w s) (sym (F .step .document)) in
             record {
               memory = memory-freed;
-              slot = slot-made;
+              live = slot-live;
               inside =
                   subst (λ (x : Block). x .start + x .len ≤ limitsOf (document .limits) .entries w) same
                   (subst (λ (x : Limits). rangeIn D w (handleIndex word) .start + rangeIn D w (handleIndex word) .len ≤ limitsOf x .entries w) (sym (F .step .limits)) b);

@@ -8,7 +8,7 @@ use lib.ListN.{length, getD, take, drop}
 use lib.Seq.{getD-take}
 use borrow.Author.Tests.{lt-ltb, le-ltb}
 use Rattle.words.specs.Parts.{part}
-use Rattle.words.proofs.Parts.{getD-part}
+use Rattle.words.proofs.Parts.{getD-part, take-part, part-part}
 use Rattle.slots.specs.Records.{nodeOf}
 use Rattle.slots.specs.Regions.{generationAt, recordAt, nodeAt}
 use Rattle.slots.specs.declared.NodeRecord.{NodeRecord}
@@ -44,6 +44,16 @@ entry-read d w mem start at e h =
     ap (λ (a : ℕ). getD mem (a + at) 0) e
     ∙ sym (getD-part mem (arenaAt (limitsOf (d .limits)) w) (2 * entriesOf (d .limits) w) at 0 (omega arith))
     ∙ sym (getD-take (entriesOf (d .limits) w) (arenaPart d w mem) at 0 h)
+
+-- a block of an arena is a part of the memory
+pub entries-read : (d : Document) (w : Which) (mem : List ℕ) (first start len : ℕ) → first ≡ arenaAt (limitsOf (d .limits)) w → start + len ≤ entriesOf (d .limits) w
+    → part start len (arenaIn d w mem .ids) ≡ part (first + start) len mem
+entries-read d w mem first start len e h =
+    let l = entriesOf (d .limits) w in
+    let at = arenaAt (limitsOf (d .limits)) w in
+    ap (part start len) (take-part mem at (2 * l) l (omega arith))
+    ∙ part-part mem at l start len h
+    ∙ ap (λ (a : ℕ). part (a + start) len mem) (sym e)
 
 -- the length of an arena, by the code's name of it
 pub used-read : (d : Document) (a : Arena) (limit count r : ℕ) → limit ≡ limitsOf (d .limits) .entries (whichOf a) → count ≡ usedOf (d .counts) (whichOf a)

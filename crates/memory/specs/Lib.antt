@@ -1,5 +1,6 @@
 pub mod Layout
 pub mod Decode
+pub mod Words
 pub mod Writing
 pub mod Entries
 pub mod Undamaged

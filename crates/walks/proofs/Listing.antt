@@ -9,21 +9,21 @@ use native.Mathlib.Numerals.{add-one}
 use lib.ListN.{length, getD, set, take, drop, length-drop, length-reverse}
 use lib.Seq.{drop-length, drop-cons}
 use Rattle.words.specs.Parts.{part, put}
-use Rattle.words.proofs.Parts.{lent, length-part, getD-part, take-part, part-part, part-none, part-snoc, put-back, set-put-after, put-nil}
+use Rattle.words.proofs.Parts.{lent, length-part, getD-part, part-none, part-snoc, put-back, set-put-after, put-nil}
 use Rattle.blocks.specs.Arena.{Block, listOf}
 use Rattle.slots.specs.Handles.{handleIndex}
 use Rattle.slots.specs.Regions.{putOrder}
 use Rattle.slots.specs.declared.Range.{Range}
 use Rattle.slots.proofs.Regions.{length-putOrder}
 use Rattle.model.specs.Kinds.{Which}
-use Rattle.model.specs.Doc.{Doc, rangeIn, listIn}
+use Rattle.model.specs.Doc.{Doc, liveSlot, rangeIn, listIn}
 use Rattle.model.specs.Edits.{keyed}
 use Rattle.memory.specs.declared.layout.Document.{Document}
-use Rattle.memory.specs.Layout.{limitsOf, entriesOf, arenaAt, memoryOk}
-use Rattle.memory.specs.Decode.{blockOf, rangeLoaded, loadedAt, slotsPart, arenaPart, arenaIn, poolIn, namesIn, lengthsAdd, decode}
-use Rattle.memory.proofs.Columns.{range-in}
+use Rattle.memory.specs.Layout.{limitsOf, arenaAt, memoryOk}
+use Rattle.memory.specs.Decode.{blockOf, slotsPart, arenaIn, decode}
 use Rattle.memory.specs.Writing.{putSlots}
-use Rattle.memory.proofs.Reading.{slots-lent}
+use Rattle.memory.proofs.Limits.{sizes}
+use Rattle.memory.proofs.Reading.{slots-lent, entry-read, entries-read}
 use Rattle.memory.proofs.Shaped.{length-slotsPart, length-ids}
 use Rattle.walks.specs.Order.{putKeys, ListHeld, Listed}
 use Rattle.walks.proofs.Orders.{withOrder, length-putKeys, decode-putKeys, keys-none, keys-more, key-one}
@@ -65,9 +65,8 @@ module _ (d : Document) (mem : List ℕ) (w : Which) (s : ℕ) where
     pub inside : r .start + r .len ≤ limitsOf (d .limits) .entries w
     pub list : listIn (decode d mem) w s ≡ part (r .start) (r .len) (arenaIn d w mem .ids)
 
-  pub block-read : ListHeld d mem w s → (r : Range) → blockOf r ≡ rangeLoaded w (loadedAt (d .limits .nodes) (slotsPart d mem) s) → BlockRead r
-  block-read h r e =
-      let q : blockOf r ≡ rangeIn (decode d mem) w s = e ∙ sym (range-in (poolIn d mem) (namesIn d mem) (lengthsAdd d mem) d mem s (h .slot) w) in
+  pub block-read : ListHeld d mem w s → (r : Range) → blockOf r ≡ rangeIn (decode d mem) w s → BlockRead r
+  block-read h r q =
       let a : r .start ≡ rangeIn (decode d mem) w s .start = ap (λ (b : Block). b .start) q in
       let b : r .len ≡ rangeIn (decode d mem) w s .len = ap (λ (b : Block). b .len) q in
       let i = h .inside in
@@ -77,14 +76,7 @@ module _ (d : Document) (mem : List ℕ) (w : Which) (s : ℕ) where
   pub list-lent : (r : Range) (at : ℕ) → BlockRead r → at ≡ arenaAt (limitsOf (d .limits)) w
       → take (at + r .start + r .len - (at + r .start)) (drop (at + r .start) mem) ≡ listIn (decode d mem) w s
   list-lent r at b e =
-      let l = entriesOf (d .limits) w in
-      let start = arenaAt (limitsOf (d .limits)) w in
-      let i = b .inside in
-      lent mem (at + r .start) (r .len)
-      ∙ ap (λ (x : ℕ). part (x + r .start) (r .len) mem) e
-      ∙ sym (part-part mem start l (r .start) (r .len) (omega arith))
-      ∙ ap (part (r .start) (r .len)) (sym (take-part mem start (2 * l) l (omega arith)))
-      ∙ sym (b .list)
+      lent mem (at + r .start) (r .len) ∙ sym (entries-read d w mem at (r .start) (r .len) e (b .inside)) ∙ sym (b .list)
 
 -- ---- keys for the entries
 
@@ -99,53 +91,57 @@ key-put d mem ok word key s e h ys q =
     put-back mem 0 ys (15 * n - 0) size ∙ ap (λ (x : List ℕ). put 0 x mem) k ∙ key-one d mem ok word key s e h
 
 module _ (d : Document) (mem : List ℕ) (ok : memoryOk d (length mem) ≡ true) (w : Which) where
-  ids : List ℕ
-  ids = arenaIn d w mem .ids
-
-  pub arena-putKeys : (key : ℕ) (l : List ℕ) → arenaIn d w (putKeys d mem key l) ≡ arenaIn d w mem
-  arena-putKeys key l = ap (λ (x : Doc). x .arenas w) (decode-putKeys d mem ok key l)
-
-  pub keys-first : (start key : ℕ) → mem ≡ putKeys d mem key (part start 0 (arenaIn d w mem .ids))
-  keys-first start key = sym (ap (putKeys d mem key) (part-none (arenaIn d w mem .ids) start) ∙ keys-none d mem ok key)
+  pub keys-first : (start key : ℕ) → mem ≡ putKeys d mem key (part start 0 mem)
+  keys-first start key = sym (ap (putKeys d mem key) (part-none mem start) ∙ keys-none d mem ok key)
 
   pub keys-sized : (key : ℕ) (l mem′ : List ℕ) → mem′ ≡ putKeys d mem key l → length mem′ ≡ length mem
   keys-sized key l mem′ e = ap length e ∙ length-putKeys d mem ok key l
 
-  -- the whole list numbered
-  pub list-numbered : (s : ℕ) (r : Range) → BlockRead d mem w s r → (key k : ℕ) (mem′ : List ℕ) → k ≤ r .len → r .len ≤ k → mem′ ≡ putKeys d mem key (part (r .start) k (arenaIn d w mem .ids))
-      → (key + r .len ≡ key + length (listIn (decode d mem) w s)) × (mem′ ≡ putKeys d mem key (listIn (decode d mem) w s))
-  list-numbered s r b key k mem′ h g e =
-      let q : k ≡ r .len = omega arith in
-      let i = b .inside in (
-        ap (λ (x : ℕ). key + x) (sym (ap length (b .list) ∙ length-part (arenaIn d w mem .ids) (r .start) (r .len) (omega (arith, length-ids d mem ok w)))),
-        e ∙ ap (λ (x : ℕ). putKeys d mem key (part (r .start) x (arenaIn d w mem .ids))) q ∙ ap (putKeys d mem key) (sym (b .list)),
-      )
+  module _ (first : ℕ) (f : first ≡ arenaAt (limitsOf (d .limits)) w) where
+    -- the whole list numbered
+    pub list-numbered : (s : ℕ) (r : Range) → BlockRead d mem w s r → (key k : ℕ) (mem′ : List ℕ) → k ≤ r .len → r .len ≤ k → mem′ ≡ putKeys d mem key (part (first + r .start) k mem)
+        → (key + r .len ≡ key + length (listIn (decode d mem) w s)) × (mem′ ≡ putKeys d mem key (listIn (decode d mem) w s))
+    list-numbered s r b key k mem′ h g e =
+        let q : k ≡ r .len = omega arith in
+        let i = b .inside in (
+          ap (λ (x : ℕ). key + x) (sym (ap length (b .list) ∙ length-part (arenaIn d w mem .ids) (r .start) (r .len) (omega (arith, length-ids d mem ok w)))),
+          e
+              ∙ ap (λ (x : ℕ). putKeys d mem key (part (first + r .start) x mem)) q
+              ∙ ap (putKeys d mem key) (sym (b .list ∙ entries-read d w mem first (r .start) (r .len) f i)),
+        )
 
-  module _ (start len k key word : ℕ) (mem′ : List ℕ) (fits : start + len ≤ limitsOf (d .limits) .entries w) (h : k < len)
-      (e : mem′ ≡ putKeys d mem key (part start k (arenaIn d w mem .ids))) (q : word ≡ getD (arenaIn d w mem′ .ids) (start + k) 0) where
-    entry-read : word ≡ getD (arenaIn d w mem .ids) (start + k) 0
-    entry-read =
-        q ∙ ap (λ (x : List ℕ). getD (arenaIn d w x .ids) (start + k) 0) e
-        ∙ ap (λ (x : List ℕ). getD x (start + k) 0) (ap (λ (x : Doc). x .arenas w .ids) (decode-putKeys d mem ok key (part start k (arenaIn d w mem .ids))))
+    module _ (start len k key word : ℕ) (mem′ : List ℕ) (fits : start + len ≤ limitsOf (d .limits) .entries w) (h : k < len)
+        (e : mem′ ≡ putKeys d mem key (part (first + start) k mem)) (q : word ≡ getD mem′ (first + start + k) 0) where
+      word-at : (m : List ℕ) → getD m (first + start + k) 0 ≡ getD (arenaIn d w m .ids) (start + k) 0
+      word-at m =
+          let z : first + start + k ≡ first + (start + k) = omega arith in
+          ap (λ (i : ℕ). getD m i 0) z ∙ entry-read d w m first (start + k) f (omega arith)
 
-    pub entry-listed : (s : ℕ) → Listed d mem w s → listIn (decode d mem) w s ≡ part start len (arenaIn d w mem .ids) → handleIndex word < d .limits .nodes
-    entry-listed s l f =
-        l .slots word
-        (subst (λ (x : List ℕ). List·Memᴰ word x) (sym f)
-        (subst (λ (x : ℕ). List·Memᴰ x (part start len (arenaIn d w mem .ids))) (sym (entry-read ∙ sym (getD-part (arenaIn d w mem .ids) start len k 0 h)))
-        (mem-getD (part start len (arenaIn d w mem .ids)) k 0 (omega (arith, length-part (arenaIn d w mem .ids) start len (omega (arith, length-ids d mem ok w)))))))
+      listed : word ≡ getD (arenaIn d w mem .ids) (start + k) 0
+      listed =
+          q ∙ word-at mem′
+          ∙ ap (λ (x : List ℕ). getD (arenaIn d w x .ids) (start + k) 0) e
+          ∙ ap (λ (x : List ℕ). getD x (start + k) 0) (ap (λ (x : Doc). x .arenas w .ids) (decode-putKeys d mem ok key (part (first + start) k mem)))
 
-    pub keys-next : (mem″ : List ℕ) → mem″ ≡ putKeys d mem′ (key + k) (word ∷ []) → mem″ ≡ putKeys d mem key (part start (k + 1) (arenaIn d w mem .ids))
-    keys-next mem″ f =
-        let p = part start k (arenaIn d w mem .ids) in
-        let size : length p ≡ k = length-part (arenaIn d w mem .ids) start k (omega (arith, length-ids d mem ok w)) in
-        f ∙ ap (λ (x : List ℕ). putKeys d x (key + k) (word ∷ [])) e
-        ∙ ap (λ (x : ℕ). putKeys d (putKeys d mem key p) (key + x) (word ∷ [])) (sym size)
-        ∙ keys-more d mem ok key p (word ∷ [])
-        ∙ ap (putKeys d mem key)
-        (ap (λ (x : ℕ). p ++ (x ∷ [])) entry-read
-        ∙ sym (part-snoc (arenaIn d w mem .ids) start k 0 (omega (arith, length-ids d mem ok w)))
-        ∙ ap (λ (x : ℕ). part start x (arenaIn d w mem .ids)) (sym (add-one k)))
+      pub entry-listed : (s : ℕ) → Listed d mem w s → listIn (decode d mem) w s ≡ part start len (arenaIn d w mem .ids) → handleIndex word < d .limits .nodes
+      entry-listed s l g =
+          l .slots word
+          (subst (λ (x : List ℕ). List·Memᴰ word x) (sym g)
+          (subst (λ (x : ℕ). List·Memᴰ x (part start len (arenaIn d w mem .ids))) (sym (listed ∙ sym (getD-part (arenaIn d w mem .ids) start len k 0 h)))
+          (mem-getD (part start len (arenaIn d w mem .ids)) k 0 (omega (arith, length-part (arenaIn d w mem .ids) start len (omega (arith, length-ids d mem ok w)))))))
+
+      pub keys-next : (mem″ : List ℕ) → mem″ ≡ putKeys d mem′ (key + k) (word ∷ []) → mem″ ≡ putKeys d mem key (part (first + start) (k + 1) mem)
+      keys-next mem″ g =
+          let p = part (first + start) k mem in
+          let z = sizes d (length mem) ok .arena w in
+          let size : length p ≡ k = length-part mem (first + start) k (omega arith) in
+          g ∙ ap (λ (x : List ℕ). putKeys d x (key + k) (word ∷ [])) e
+          ∙ ap (λ (x : ℕ). putKeys d (putKeys d mem key p) (key + x) (word ∷ [])) (sym size)
+          ∙ keys-more d mem ok key p (word ∷ [])
+          ∙ ap (putKeys d mem key)
+          (ap (λ (x : ℕ). p ++ (x ∷ [])) (listed ∙ sym (word-at mem))
+          ∙ sym (part-snoc mem (first + start) k 0 (omega arith))
+          ∙ ap (λ (x : ℕ). part (first + start) x mem) (sym (add-one k)))
 
   -- lists are as they were
   pub listed-kept : (key : ℕ) (l : List ℕ) (s : ℕ) → Listed d mem w s → Listed d (putKeys d mem key l) w s
@@ -154,7 +150,7 @@ module _ (d : Document) (mem : List ℕ) (ok : memoryOk d (length mem) ≡ true)
       record {
         held = record {
           memory = ap (memoryOk d) (length-putKeys d mem ok key l) ∙ ok;
-          slot = h .held .slot;
+          live = subst (λ (x : Doc). liveSlot x s ≡ true) (sym e) (h .held .live);
           inside = subst (λ (x : Doc). rangeIn x w s .start + rangeIn x w s .len ≤ limitsOf (d .limits) .entries w) (sym e) (h .held .inside);
         };
         slots = subst (λ (x : Doc). (y : ℕ) → List·Memᴰ y (listIn x w s) → handleIndex y < d .limits .nodes) (sym e) (h .slots);

@@ -142,6 +142,6 @@ module _ (d : Document) (mem : List ℕ) (ok : memoryOk d (length mem) ≡ true)
       let same : blockIn D w i ≡ rangeIn D w i = ap (λ (t : Bool). cond t (rangeIn D w i) (block 0 0)) (live-of D h r) in
       let b = subst (λ (x : Block). x .start + capOf (D .arenas w) x ≤ D .arenas w .used) same (W .blocks w .inside i .below) in
       record {
-        held = record { memory = ok; slot = index-made h r; inside = omega (arith, len-cap (D .arenas w) (rangeIn D w i)) };
+        held = record { memory = ok; live = live-of D h r; inside = omega (arith, len-cap (D .arenas w) (rangeIn D w i)) };
         slots = λ c m. let z = index-made c (W .entries .noOther w i c (live-of D h r) m .0) in omega arith;
       }

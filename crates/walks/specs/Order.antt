@@ -9,7 +9,7 @@ use Rattle.words.specs.Parts.{put}
 use Rattle.slots.specs.Handles.{handleIndex}
 use Rattle.slots.specs.Regions.{orderStart}
 use Rattle.model.specs.Kinds.{Which, children, attributes, namespaces}
-use Rattle.model.specs.Doc.{Doc, rootHandle, noKey, resolves, parentAt, rangeIn, listIn, listAt}
+use Rattle.model.specs.Doc.{Doc, rootHandle, noKey, liveSlot, resolves, parentAt, rangeIn, listIn, listAt}
 use Rattle.model.specs.Rules.{Entries, Blocks}
 use Rattle.model.specs.Edits.{keyed}
 use Rattle.memory.specs.declared.layout.Document.{Document}
@@ -41,11 +41,11 @@ pushedIn d s = listIn d children s ++ (listIn d attributes s ++ listIn d namespa
 abbrev pub renewed : Document → Document
 renewed d = recordWith d (d .counts) true
 
--- ---- what is asked before a list is read: the slot was made, and its block lies in the arena
+-- ---- what is asked before a list is read: the slot is live, and its block lies in the arena
 
 pub record ListHeld (d : Document) (mem : List ℕ) (w : Which) (s : ℕ) : Type 0 where
   pub memory : memoryOk d (length mem) ≡ true
-  pub slot : s < slotsMade d
+  pub live : liveSlot (decode d mem) s ≡ true
   pub inside : rangeIn (decode d mem) w s .start + rangeIn (decode d mem) w s .len ≤ limitsOf (d .limits) .entries w
 
 -- and before its entries are numbered: each is of a slot

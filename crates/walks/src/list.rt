@@ -9,18 +9,19 @@ ghost use Rattle.model.specs.Doc.{listIn};
 ghost use Rattle.memory.specs.Layout.{whichOf};
 ghost use Rattle.memory.specs.Decode.{decode};
 ghost use Rattle.walks.specs.Order.{ListHeld, pushedIn};
-use memory::entries::block_of;
+use memory::fields::live_block;
 use memory::layout::Arena;
 use memory::layout::Document;
 use memory::layout::arena_at;
 use slots::NodeSlot;
 
-// The list of the node in a slot, a part of the memory.
+// The list of the live node in a slot, a part of the memory.
 pub fn list_of(d: Document, mem: &[u64], slot: NodeSlot, arena: Arena) -> &[u64]
     requires { ⌜ ListHeld d (now mem) (whichOf arena) (slot .0) ⌝ }
     ensures { λ r. ⌜ now r ≡ listIn (decode d (now (mem .entry))) (whichOf arena) (slot .0) ⌝ }
 {
-    let block = block_of(d, mem, slot, arena);
+    let number = slot.0;
+    let block = live_block(d, mem, number as usize, arena);
     let start = arena_at(d.limits, arena) + block.start as usize;
     let end = start + block.len as usize;
     &mem[start..end]

@@ -13,10 +13,10 @@ ghost use Rattle.memory.specs.Decode.{decode};
 ghost use Rattle.walks.specs.Order.{Listed, Walkable, putOrders, putKeys, clearKeys, keyedAt, renewed};
 use crate::list::list_of;
 use crate::list::push_reversed;
-use memory::entries::block_of;
+use memory::fields::live_block;
 use memory::layout::Arena;
 use memory::layout::Document;
-use memory::read::entry;
+use memory::layout::arena_at;
 use memory::read::made;
 use slots::NodeSlot;
 
@@ -44,12 +44,14 @@ fn number_list(d: Document, mem: &mut [u64], slot: NodeSlot, arena: Arena, key: 
     ensures { λ r. ⌜ r ≡ key + length (listIn (decode d (now (mem .entry))) (whichOf arena) (slot .0)) ⌝ }
     ensures { λ _. ⌜ now (mem .exit) ≡ putKeys d (now (mem .entry)) key (listIn (decode d (now (mem .entry))) (whichOf arena) (slot .0)) ⌝ }
 {
-    let block = block_of(d, &mem[..], slot, arena);
+    let number = slot.0;
+    let block = live_block(d, &mem[..], number as usize, arena);
+    let first = arena_at(d.limits, arena);
     let start = block.start as usize;
     let len = block.len as usize;
     let mut k = 0;
     while k < len {
-        let word = entry(d, &mem[..], arena, start + k);
+        let word = mem[first + start + k];
         put_key(d, mem, word, key + k as u64);
         k += 1;
     }

@@ -7,13 +7,13 @@ use borrow.Author.Needs.{needs}
 use Rattle.compaction.proofs.copy.lay_list.Statement.{statement}
 use Rattle.compaction.proofs.copy.lay_list.Tie as tie
 
-block-of-requires : tie.Need-block-of-requires
-block-of-requires c κs =
+cast-live-block : tie.Need-cast-live-block
+cast-live-block c = search needs
+
+live-block-requires : tie.Need-live-block-requires
+live-block-requires c κs =
     let s = c .before .before in
-    let d = s .args .d in
-    let mem = s .args .mem .now in
-    let w = whichOf (s .args .arena) in
-    (s .pre .memory, slot-in d mem w (s .args .slot .0) (s .args .used) (s .pre))
+    (s .pre .memory, s .pre .live)
 
 length-in-requires : tie.Need-length-in-requires
 length-in-requires c κs = search needs
@@ -25,24 +25,27 @@ copy-block-requires c κs =
     let mem = s .args .mem .now in
     let w = whichOf (s .args .arena) in
     let e = c .before .length-in .ensures in
-    (s .pre .memory, block-inside d mem w (s .args .slot .0) (s .args .used) (s .pre) (c .before .before .block-of .result) (c .before .before .block-of .ensures), omega (arith, e, block-room d mem w (s .args .slot .0) (s .args .used) (s .pre) (c .before .before .block-of .result) (c .before .before .block-of .ensures)))
+    (s .pre .memory, block-inside d mem w (s .args .slot .0) (s .args .used) (s .pre) (c .before .before .live-block .result) (c .before .before .live-block .ensures), omega (arith, e, block-room d mem w (s .args .slot .0) (s .args .used) (s .pre) (c .before .before .live-block .result) (c .before .before .live-block .ensures)))
 
-cast-t14 : tie.Need-cast-t14
-cast-t14 c =
+cast-t16 : tie.Need-cast-t16
+cast-t16 c =
     let s = c .before .before .before .before .before .before .before .before in
     let d = s .args .d in
     let mem = s .args .mem .now in
     let w = whichOf (s .args .arena) in
     let e = c .before .before .before .before .length-in .ensures in
-    omega (arith, e, block-room d mem w (s .args .slot .0) (s .args .used) (s .pre) (c .before .before .before .before .before .block-of .result) (c .before .before .before .before .before .block-of .ensures), narrow d mem w (s .args .slot .0) (s .args .used) (s .pre))
+    omega (arith, e, block-room d mem w (s .args .slot .0) (s .args .used) (s .pre) (c .before .before .before .before .before .live-block .result) (c .before .before .before .before .before .live-block .ensures), narrow d mem w (s .args .slot .0) (s .args .used) (s .pre))
 
-put-range-requires : tie.Need-put-range-requires
-put-range-requires c κs =
+cast-put-block : tie.Need-cast-put-block
+cast-put-block c = search needs
+
+put-block-requires : tie.Need-put-block-requires
+put-block-requires c κs =
     let s = c .before .before .before .before .before .before .before .before .before in
     let d = s .args .d in
     let mem = s .args .mem .now in
     let w = whichOf (s .args .arena) in
-    (arena-ok d mem w (s .args .slot .0) (s .args .used) (s .pre) (c .before .before .before .before .before .before .block-of .result) (c .before .before .before .before .before .before .block-of .ensures) _ (c .before .before .before .before .before .length-in .ensures) _ (c .before .before .before .copy-block .ensures), slot-in d mem w (s .args .slot .0) (s .args .used) (s .pre))
+    (arena-ok d mem w (s .args .slot .0) (s .args .used) (s .pre) (c .before .before .before .before .before .before .live-block .result) (c .before .before .before .before .before .before .live-block .ensures) _ (c .before .before .before .before .before .length-in .ensures) _ (c .before .before .before .copy-block .ensures), slot-in d mem w (s .args .slot .0) (s .args .used) (s .pre))
 
 cast-with-length : tie.Need-cast-with-length
 cast-with-length c = search needs
@@ -54,7 +57,7 @@ add-with-length c =
     let mem = s .args .mem .now in
     let w = whichOf (s .args .arena) in
     let e = c .before .before .before .before .before .before .before .before .before .length-in .ensures in
-    omega (arith, e, block-room d mem w (s .args .slot .0) (s .args .used) (s .pre) (c .before .before .before .before .before .before .before .before .before .before .block-of .result) (c .before .before .before .before .before .before .before .before .before .before .block-of .ensures), narrow d mem w (s .args .slot .0) (s .args .used) (s .pre))
+    omega (arith, e, block-room d mem w (s .args .slot .0) (s .args .used) (s .pre) (c .before .before .before .before .before .before .before .before .before .before .live-block .result) (c .before .before .before .before .before .before .before .before .before .before .live-block .ensures), narrow d mem w (s .args .slot .0) (s .args .used) (s .pre))
 
 with-length-requires : tie.Need-with-length-requires
 with-length-requires c κs = search needs
@@ -68,17 +71,19 @@ returns c =
     let d = s .args .d in
     let mem = s .args .mem .now in
     let w = whichOf (s .args .arena) in
-    laid-with d mem w (s .args .slot .0) (s .args .used) (s .pre) (c .before .before .before .before .before .before .before .before .before .before .before .block-of .result) (c .before .before .before .before .before .before .before .before .before .before .before .block-of .ensures) _ (c .before .before .before .before .before .before .before .before .before .before .length-in .ensures) _ (c .before .before .before .before .before .before .before .before .copy-block .ensures) _ (c .before .before .before .before .put-range .ensures) _ (c .with-length .ensures)
+    laid-with d mem w (s .args .slot .0) (s .args .used) (s .pre) (c .before .before .before .before .before .before .before .before .before .before .before .live-block .result) (c .before .before .before .before .before .before .before .before .before .before .before .live-block .ensures) _ (c .before .before .before .before .before .before .before .before .before .before .length-in .ensures) _ (c .before .before .before .before .before .before .before .before .copy-block .ensures) _ (c .before .before .before .before .put-block .ensures) _ (c .with-length .ensures)
 
 pub lay-list-spec : {M : Type 1} → statement M
 lay-list-spec =
     tie.close
     (tie.spec
-    block-of-requires
+    cast-live-block
+    live-block-requires
     length-in-requires
     copy-block-requires
-    cast-t14
-    put-range-requires
+    cast-t16
+    cast-put-block
+    put-block-requires
     cast-with-length
     add-with-length
     with-length-requires

@@ -1,6 +1,6 @@
 -- `compaction::copy::lay_node` meets its contract.
 -- Assumes nothing.
-use Rattle.compaction.proofs.Nodes.{children-layable, first-ok, first-made, other-laid, attributes-layable, namespaces-layable, element-laid}
+use Rattle.compaction.proofs.Nodes.{children-layable, first-ok, first-live, other-laid, attributes-layable, namespaces-layable, element-laid}
 use borrow.Author.Needs.{needs}
 use Rattle.compaction.proofs.copy.lay_node.Statement.{statement}
 use Rattle.compaction.proofs.copy.lay_node.Tie as tie
@@ -17,14 +17,17 @@ lay-list-requires c κs =
     let u = s .args .used in
     children-layable d mem h u (s .pre) _ (c .before .slot-of .ensures)
 
-holds-element-requires : tie.Need-holds-element-requires
-holds-element-requires c κs =
+cast-is-element : tie.Need-cast-is-element
+cast-is-element c = search needs
+
+is-element-requires : tie.Need-is-element-requires
+is-element-requires c κs =
     let s = c .before .before .before .before .before .before .before in
     let d = s .args .d in
     let mem = s .args .mem .now in
     let h = s .args .word in
     let u = s .args .used in
-    (first-ok d mem h u (s .pre) _ (c .before .before .before .before .before .slot-of .ensures) _ _ (c .before .before .before .lay-list .ensures), first-made d mem h u (s .pre) _ (c .before .before .before .before .before .slot-of .ensures) _ _ (c .before .before .before .lay-list .ensures))
+    (first-ok d mem h u (s .pre) _ (c .before .before .before .before .before .slot-of .ensures) _ _ (c .before .before .before .lay-list .ensures), first-live d mem h u (s .pre) _ (c .before .before .before .before .before .slot-of .ensures) _ _ (c .before .before .before .lay-list .ensures))
 
 lay-list-requires-2 : tie.Need-lay-list-requires-2
 lay-list-requires-2 c κs =
@@ -33,7 +36,7 @@ lay-list-requires-2 c κs =
     let mem = s .args .mem .now in
     let h = s .args .word in
     let u = s .args .used in
-    attributes-layable d mem h u (s .pre) _ (c .before .before .before .before .before .before .before .before .slot-of .ensures) _ _ (c .before .before .before .before .before .before .lay-list .ensures) _ (c .before .before .holds-element .ensures) (c .before .if1 .taken)
+    attributes-layable d mem h u (s .pre) _ (c .before .before .before .before .before .before .before .before .slot-of .ensures) _ _ (c .before .before .before .before .before .before .lay-list .ensures) _ (c .before .before .is-element .ensures) (c .before .if1 .taken)
 
 lay-list-requires-3 : tie.Need-lay-list-requires-3
 lay-list-requires-3 c κs =
@@ -42,7 +45,7 @@ lay-list-requires-3 c κs =
     let mem = s .args .mem .now in
     let h = s .args .word in
     let u = s .args .used in
-    namespaces-layable d mem h u (s .pre) _ (c .before .before .before .before .before .before .before .before .before .before .before .before .slot-of .ensures) _ _ (c .before .before .before .before .before .before .before .before .before .before .lay-list .ensures) _ (c .before .before .before .before .before .before .holds-element .ensures) (c .before .before .before .before .before .if1 .taken) _ _ (c .before .before .before .lay-list2 .ensures)
+    namespaces-layable d mem h u (s .pre) _ (c .before .before .before .before .before .before .before .before .before .before .before .before .slot-of .ensures) _ _ (c .before .before .before .before .before .before .before .before .before .before .lay-list .ensures) _ (c .before .before .before .before .before .before .is-element .ensures) (c .before .before .before .before .before .if1 .taken) _ _ (c .before .before .before .lay-list2 .ensures)
 
 same-length : tie.Need-same-length
 same-length c = search needs
@@ -54,7 +57,7 @@ returns c =
     let mem = s .args .mem .now in
     let h = s .args .word in
     let u = s .args .used in
-    element-laid d mem h u (s .pre) _ (c .before .before .before .before .before .before .before .before .before .before .before .before .before .before .before .slot-of .ensures) _ _ (c .before .before .before .before .before .before .before .before .before .before .before .before .before .lay-list .ensures) _ (c .before .before .before .before .before .before .before .before .before .holds-element .ensures) (c .before .before .before .before .before .before .before .before .if1 .taken) _ _ (c .before .before .before .before .before .before .lay-list2 .ensures) _ _ (c .before .before .lay-list3 .ensures)
+    element-laid d mem h u (s .pre) _ (c .before .before .before .before .before .before .before .before .before .before .before .before .before .before .before .slot-of .ensures) _ _ (c .before .before .before .before .before .before .before .before .before .before .before .before .before .lay-list .ensures) _ (c .before .before .before .before .before .before .before .before .before .is-element .ensures) (c .before .before .before .before .before .before .before .before .if1 .taken) _ _ (c .before .before .before .before .before .before .lay-list2 .ensures) _ _ (c .before .before .lay-list3 .ensures)
 
 same-length-2 : tie.Need-same-length-2
 same-length-2 c = search needs
@@ -66,7 +69,7 @@ returns-2 c =
     let mem = s .args .mem .now in
     let h = s .args .word in
     let u = s .args .used in
-    other-laid d mem h u (s .pre) _ (c .before .before .before .before .before .before .before .slot-of .ensures) _ _ (c .before .before .before .before .before .lay-list .ensures) _ (c .before .holds-element .ensures) (c .if1 .left)
+    other-laid d mem h u (s .pre) _ (c .before .before .before .before .before .before .before .slot-of .ensures) _ _ (c .before .before .before .before .before .lay-list .ensures) _ (c .before .is-element .ensures) (c .if1 .left)
 
 pub lay-node-spec : {M : Type 1} → statement M
 lay-node-spec =
@@ -74,7 +77,8 @@ lay-node-spec =
     (tie.spec
     slot-of-requires
     lay-list-requires
-    holds-element-requires
+    cast-is-element
+    is-element-requires
     lay-list-requires-2
     lay-list-requires-3
     same-length

@@ -1,6 +1,6 @@
 -- `compaction::tree::lay_slot` meets its contract.
 -- Assumes nothing.
-use Rattle.compaction.proofs.Turns.{trees-ok, tree-ahead, no-tree}
+use Rattle.compaction.proofs.Turns.{trees-ok, nodes-even, tree-ahead, no-tree}
 use borrow.Author.Needs.{needs}
 use Rattle.compaction.proofs.tree.lay_slot.Statement.{statement}
 use Rattle.compaction.proofs.tree.lay_slot.Tie as tie
@@ -10,7 +10,7 @@ is-top-requires c κs =
     let s = c .before .before .before in
     let d = s .args .d in
     let mem = s .args .mem .now in
-    (trees-ok d (s .pre .2 .0) mem (s .args .slot .0) (s .args .used) (s .pre .2 .1), s .pre .1)
+    (trees-ok d (s .pre .2 .0) mem (s .args .slot .0) (s .args .used) (s .pre .2 .1), s .pre .1, nodes-even d (s .pre .2 .0) mem (s .args .slot .0) (s .args .used) (s .pre .2 .1))
 
 lay-tree-requires : tie.Need-lay-tree-requires
 lay-tree-requires c κs =

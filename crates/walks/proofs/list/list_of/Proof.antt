@@ -9,8 +9,11 @@ use borrow.Author.Needs.{needs}
 use Rattle.walks.proofs.list.list_of.Statement.{statement}
 use Rattle.walks.proofs.list.list_of.Tie as tie
 
-block-of-requires : tie.Need-block-of-requires
-block-of-requires c κs = search needs
+cast-live-block : tie.Need-cast-live-block
+cast-live-block c = search needs
+
+live-block-requires : tie.Need-live-block-requires
+live-block-requires c κs = (c .before .pre .memory, c .before .pre .live)
 
 arena-at-requires : tie.Need-arena-at-requires
 arena-at-requires c κs =
@@ -25,7 +28,7 @@ add-start c =
     let s = c .before .before .before .before in
     let w = whichOf (s .args .arena) in
     let z = sizes (s .args .d) (length (s .args .mem .now)) (s .pre .memory) in
-    let b = block-read (s .args .d) (s .args .mem .now) w (s .args .slot .0) (s .pre) (c .before .before .block-of .result) (c .before .before .block-of .ensures) in
+    let b = block-read (s .args .d) (s .args .mem .now) w (s .args .slot .0) (s .pre) (c .before .before .live-block .result) (c .before .before .live-block .ensures) in
     omega (arith, z .arena w, z .narrow w, b .inside)
 
 cast-end : tie.Need-cast-end
@@ -36,7 +39,7 @@ add-end c =
     let s = c .before .before .before .before .before in
     let w = whichOf (s .args .arena) in
     let z = sizes (s .args .d) (length (s .args .mem .now)) (s .pre .memory) in
-    let b = block-read (s .args .d) (s .args .mem .now) w (s .args .slot .0) (s .pre) (c .before .before .before .block-of .result) (c .before .before .before .block-of .ensures) in
+    let b = block-read (s .args .d) (s .args .mem .now) w (s .args .slot .0) (s .pre) (c .before .before .before .live-block .result) (c .before .before .before .live-block .ensures) in
     omega (arith, z .arena w, z .narrow w, b .inside)
 
 mul-result : tie.Need-mul-result
@@ -44,7 +47,7 @@ mul-result c =
     let s = c .before .before .before .before .before in
     let w = whichOf (s .args .arena) in
     let z = sizes (s .args .d) (length (s .args .mem .now)) (s .pre .memory) in
-    let b = block-read (s .args .d) (s .args .mem .now) w (s .args .slot .0) (s .pre) (c .before .before .before .block-of .result) (c .before .before .before .block-of .ensures) in
+    let b = block-read (s .args .d) (s .args .mem .now) w (s .args .slot .0) (s .pre) (c .before .before .before .live-block .result) (c .before .before .before .live-block .ensures) in
     omega (arith, z .arena w, z .narrow w, b .inside)
 
 sub-result : tie.Need-sub-result
@@ -58,13 +61,13 @@ part-result-end c =
     let s = c .before .before .before .before .before in
     let w = whichOf (s .args .arena) in
     let z = sizes (s .args .d) (length (s .args .mem .now)) (s .pre .memory) in
-    let b = block-read (s .args .d) (s .args .mem .now) w (s .args .slot .0) (s .pre) (c .before .before .before .block-of .result) (c .before .before .before .block-of .ensures) in
+    let b = block-read (s .args .d) (s .args .mem .now) w (s .args .slot .0) (s .pre) (c .before .before .before .live-block .result) (c .before .before .before .live-block .ensures) in
     omega (arith, z .arena w, z .narrow w, b .inside)
 
 returns : tie.Need-returns
 returns c =
     let s = c .before .before .before .before .before .before in
-    let r = c .before .before .before .before .block-of in
+    let r = c .before .before .before .before .live-block in
     let w = whichOf (s .args .arena) in
     list-lent (s .args .d) (s .args .mem .now) w (s .args .slot .0) (r .result) _ (block-read (s .args .d) (s .args .mem .now) w (s .args .slot .0) (s .pre) (r .result) (r .ensures)) (c .before .before .before .arena-at .ensures)
 
@@ -72,7 +75,8 @@ pub list-of-spec : {M : Type 1} → statement M
 list-of-spec =
     tie.close
     (tie.spec
-    block-of-requires
+    cast-live-block
+    live-block-requires
     arena-at-requires
     cast-start
     add-start

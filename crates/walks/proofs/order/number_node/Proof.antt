@@ -3,6 +3,7 @@
 use mathlib.Core.List.{_∷_, []}
 use native.Mathlib.Omega.{arith}
 use lib.ListN.{length}
+use Rattle.memory.proofs.Words.{live-below}
 use Rattle.model.specs.Kinds.{children, attributes, namespaces}
 use Rattle.walks.proofs.Numbering.{numbered-one, numbered-listed, numbered-more, listed-short}
 use borrow.Author.Needs.{needs}
@@ -18,7 +19,7 @@ put-key-requires c κs =
     let d = s .args .d in
     let mem = s .args .mem .now in
     let ok = s .pre .0 children .held .memory in
-    let h = s .pre .0 children .held .slot in
+    let h = live-below d mem _ (s .pre .0 children .held .live) in
     (ok, omega arith)
 
 add-number-list : tie.Need-add-number-list
