@@ -1,22 +1,20 @@
 -- Rule 5: the claims that the blocks of all slots make are those of the document's blocks, and they are met exactly where the rule holds.
 -- Assumes nothing.
-use mathlib.Core.Path.{_≡_, refl, sym, ap, ap₂, _∙_}
-use mathlib.Core.Bool.{Bool, true, false, not}
-use mathlib.Core.List.{List, []}
-use Prim.Native.Nat.{ℕ, _+_, _-_, _*_, _≤_, _<_}
-use native.Mathlib.Numerals.{add-one}
+use mathlib.Core.Path.{_≡_, refl, sym, ap, ap₂, _∙_, subst}
+use mathlib.Core.Bool.{Bool, true, false, cond, and-true}
+use mathlib.Core.List.{List, [], _++_}
+use Prim.Native.Nat.{ℕ, _+_, _-_, _*_, _≤_}
 use native.Mathlib.Omega.{arith}
 use lib.ListN.{length, take, drop, replicate}
 use lib.Dec.{leb}
 use borrow.Author.Tests.{leb-true}
-use Rattle.words.specs.Parts.{part}
-use Rattle.words.proofs.Parts.{lent}
+use Rattle.words.specs.Parts.{part, put}
+use Rattle.words.proofs.Parts.{lent, returned, length-part, part-none, put-nil, put-same}
 use Rattle.words.proofs.Tests.{and-left, and-right}
 use Rattle.blocks.specs.Arena.{Arena, Block, block, arenaOf}
 use Rattle.blocks.specs.Rule.{Shaped}
-use Rattle.blocks.specs.Claims.{blockClaimable, blockClaimed, marksAfter, allClaimable}
+use Rattle.blocks.specs.Claims.{claimable, claimed, blockClaimable, blockClaimed}
 use Rattle.blocks.proofs.Decision.{decided-rule, rule-decided}
-use Rattle.slots.proofs.Lists.{allBelow-next, allBelow-not}
 use Rattle.slots.specs.declared.Range.{Range}
 use Rattle.model.specs.Kinds.{Which, children, attributes, namespaces}
 use Rattle.model.specs.Doc.{Doc, Limits, liveSlot, rangeIn}
@@ -29,77 +27,79 @@ use Rattle.memory.specs.declared.layout.Limits as given
 use Rattle.memory.specs.declared.layout.Arena as names
 use Rattle.memory.specs.declared.layout.Arena.the-variants.{Children, Attributes, Namespaces}
 use Rattle.memory.specs.Layout.{whichOf, limitsOf, entriesOf, arenaAt, scratchWords, memoryOk, buffersOk}
-use Rattle.memory.specs.Decode.{blockOf, slotsMade, arenaPart, arenaUsed, arenaIn}
-use Rattle.memory.proofs.Limits.{limits-fit, memory-limits}
+use Rattle.memory.specs.Decode.{blockOf, arenaPart, arenaUsed, arenaIn}
 use Rattle.memory.proofs.Columns.{length-gens, live-past}
 use Rattle.memory.proofs.Shaped.{length-ids, length-caps, shape}
 use Rattle.entries.specs.Nodes.{noTexts, decodeNodes}
 use Rattle.structure.specs.Scratch.{marksAt}
 use Rattle.structure.specs.Tests.{claimsMet}
-use Rattle.structure.proofs.Lists.{both-ways, not-true, not-false}
+use Rattle.structure.specs.Turns.{Claim}
+use Rattle.structure.proofs.Lists.{both-ways}
 
--- ---- the block of a slot
+-- ---- an empty block claims nothing
 
-module _ (D : Doc) (w : Which) (i : ℕ) (t : Bool) (e : t ≡ liveSlot D i) where
-  pub block-live : t ≡ true → (r : Range) → blockOf r ≡ rangeIn D w i → blockOf r ≡ blockIn D w i
-  block-live y r f = f ∙ sym (rw (sym e ∙ y))
+module _ (a : Arena) (m : List ℕ) (first : ℕ) where
+  none-claimable : claimable m first 0 ≡ leb first (length m)
+  unfolding claimable
+  none-claimable =
+      let e : first + 0 ≡ first = omega arith in
+      rw (e, part-none m first) (and-true (leb first (length m)))
 
-  pub block-none : t ≡ false → block 0 0 ≡ blockIn D w i
-  block-none n = sym (rw (sym e ∙ n))
+  none-claimed : claimed m first 0 ≡ m
+  unfolding claimed
+  none-claimed = go (claimable m first 0)
+    where
+      go : (t : Bool) → cond t (put first (replicate {A = ℕ} 0 1) m) m ≡ m
+      go true = put-nil m first []
+      go false = refl
 
--- ---- one claim, over the arena's part as it is lent
+  pub empty-claimable : (len : ℕ) → len ≡ 0 → blockClaimable a m (block first len) ≡ leb first (length m)
+  empty-claimable len z = rw z none-claimable
 
-module _ (d : Document) (mem : List ℕ) (w : Which) (i : ℕ) (start limit : ℕ) (s : start ≡ arenaAt (limitsOf (d .limits)) w) (l : limit ≡ limitsOf (d .limits) .entries w) where
-  arena-lent : take (start + (limit + limit) - start) (drop start mem) ≡ arenaPart d w mem
-  arena-lent =
+  pub empty-claimed : (len : ℕ) → len ≡ 0 → blockClaimed a m (block first len) ≡ m
+  empty-claimed len z = rw z none-claimed
+
+pub claim-empty : (a : Arena) (at : ℕ) (before : List ℕ) → at + a .used ≤ length before → (first len : ℕ) → len ≡ 0 → Claim a (block first len) at before before (leb first (a .used))
+claim-empty a at before h first len z = record {
+  answer = ap (leb first) (sym (length-part before at (a .used) h)) ∙ sym (empty-claimable a (part at (a .used) before) first len z);
+  marks = sym (ap (λ (v : List ℕ). put at v before) (empty-claimed a (part at (a .used) before) first len z) ∙ put-same before at (a .used) h);
+}
+
+-- ---- a claim over the parts as they are lent
+
+module _ (mem scratch marks : List ℕ) (start limit at used first len : ℕ) (r : Bool) where
+  pub claim-lent : at + used ≤ length scratch → length marks ≡ length (take (at + used - at) (drop at scratch))
+      → ((u : ℕ) → r ≡ blockClaimable (arenaOf limit u (take (start + (limit + limit) - start) (drop start mem))) (take (at + used - at) (drop at scratch)) (block first len))
+      × ((u : ℕ) → marks ≡ blockClaimed (arenaOf limit u (take (start + (limit + limit) - start) (drop start mem))) (take (at + used - at) (drop at scratch)) (block first len))
+      → Claim (arenaOf limit used (part start (limit + limit) mem)) (block first len) at scratch (take at scratch ++ (marks ++ drop (at + used - at) (drop at scratch))) r
+  claim-lent h k f =
+      let p = lent mem start (limit + limit) in
+      let q = lent scratch at used in
+      let e : length marks ≡ used = k ∙ ap length q ∙ length-part scratch at used h in
+      record {
+        answer = f .0 used ∙ ap₂ (λ (w m : List ℕ). blockClaimable (arenaOf limit used w) m (block first len)) p q;
+        marks =
+            returned scratch marks at used e
+            ∙ ap (λ (v : List ℕ). put at v scratch) (f .1 used ∙ ap₂ (λ (w m : List ℕ). blockClaimed (arenaOf limit used w) m (block first len)) p q);
+      }
+
+-- the same in the document's words
+module _ (d : Document) (mem : List ℕ) (w : Which) (i : ℕ) (live : liveSlot (decodeNodes d mem) i ≡ true) (start limit at used : ℕ) (es : start ≡ arenaAt (limitsOf (d .limits)) w) (el : limit ≡ limitsOf (d .limits) .entries w)
+    (ea : at ≡ marksAt (limitsOf (d .limits)) w) (eu : used ≡ arenaUsed d w) where
+  arena-read : arenaOf limit used (part start (limit + limit) mem) ≡ arenaIn d w mem
+  arena-read =
       let e : limit + limit ≡ 2 * entriesOf (d .limits) w = omega arith in
-      lent mem start (limit + limit) ∙ ap₂ (λ (p n : ℕ). part p n mem) s e
+      ap₂ (λ (n : ℕ) (v : List ℕ). arenaOf n used v) el (ap₂ (λ (p n : ℕ). part p n mem) es e)
+      ∙ ap (λ (u : ℕ). arenaOf (limitsOf (d .limits) .entries w) u (arenaPart d w mem)) eu
 
-  arena-read : arenaOf limit (arenaUsed d w) (take (start + (limit + limit) - start) (drop start mem)) ≡ arenaIn d w mem
-  arena-read = ap₂ (λ (n : ℕ) (v : List ℕ). arenaOf n (arenaUsed d w) v) l arena-lent
-
-  module _ (r : Range) (b : blockOf r ≡ blockIn (decodeNodes d mem) w i) (marks marks′ : List ℕ) (t : Bool) where
-    pub claim-read :
-        ((used : ℕ) → t ≡ blockClaimable (arenaOf limit used (take (start + (limit + limit) - start) (drop start mem))) marks (block (r .start) (r .len)))
-        × ((used : ℕ) → marks′ ≡ blockClaimed (arenaOf limit used (take (start + (limit + limit) - start) (drop start mem))) marks (block (r .start) (r .len)))
-        → (t ≡ blockClaimable (arenaIn d w mem) marks (blockIn (decodeNodes d mem) w i))
-        × (marks′ ≡ blockClaimed (arenaIn d w mem) marks (blockIn (decodeNodes d mem) w i))
-    claim-read f = (
-      f .0 (arenaUsed d w) ∙ ap₂ (λ (a : Arena) (x : Block). blockClaimable a marks x) arena-read b,
-      f .1 (arenaUsed d w) ∙ ap₂ (λ (a : Arena) (x : Block). blockClaimed a marks x) arena-read b,
-    )
-
--- ---- all claims, one after another
-
-module _ (a : Arena) (B : ℕ → Block) where
-  pub claims-none : allClaimable a B 0 ≡ true
-  unfolding allClaimable
-  claims-none = refl
-
-  pub marks-none : (marks marks′ : List ℕ) → length marks ≡ a .used → marks′ ≡ replicate (length marks) 0 → marks′ ≡ marksAfter a B 0
-  unfolding marksAfter
-  marks-none marks marks′ e q = q ∙ ap (λ (n : ℕ). replicate n 0) e
-
-  module _ (s : ℕ) (marks : List ℕ) (k : marks ≡ marksAfter a B s) (t : Bool) (e : t ≡ blockClaimable a marks (B s)) where
-    claim-here : blockClaimable a (marksAfter a B s) (B s) ≡ t
-    claim-here = sym (e ∙ ap (λ (m : List ℕ). blockClaimable a m (B s)) k)
-
-    pub claims-next : not t ≡ false → allClaimable a B s ≡ true → allClaimable a B (s + 1) ≡ true
-    unfolding allClaimable
-    claims-next q h = allBelow-next (λ (j : ℕ). blockClaimable a (marksAfter a B j) (B j)) s h (claim-here ∙ not-false t q)
-
-    pub claims-not : (count n : ℕ) → count ≡ n → s < count → not t ≡ true → false ≡ allClaimable a B n
-    unfolding allClaimable
-    claims-not count n c h q = sym (allBelow-not (λ (j : ℕ). blockClaimable a (marksAfter a B j) (B j)) n s (omega arith) (claim-here ∙ not-true t q))
-
-  pub marks-next : (s : ℕ) (marks marks′ : List ℕ) → marks ≡ marksAfter a B s → marks′ ≡ blockClaimed a marks (B s) → marks′ ≡ marksAfter a B (s + 1)
-  unfolding marksAfter
-  marks-next s marks marks′ k q = q ∙ ap (λ (m : List ℕ). blockClaimed a m (B s)) k ∙ sym (ap (marksAfter a B) (add-one s))
-
-  pub claims-all : (s count n : ℕ) → count ≡ n → s ≤ count → count ≤ s → allClaimable a B s ≡ true → true ≡ allClaimable a B n
-  claims-all s count n c x y h =
-      let e : s ≡ n = omega arith in
-      sym (rw e at h)
+  pub claim-read : (range : Range) → blockOf range ≡ rangeIn (decodeNodes d mem) w i → (before after : List ℕ) (r : Bool)
+      → Claim (arenaOf limit used (part start (limit + limit) mem)) (block (range .start) (range .len)) at before after r
+      → Claim (arenaIn d w mem) (blockIn (decodeNodes d mem) w i) (marksAt (limitsOf (d .limits)) w) before after r
+  claim-read range b before after r c =
+      let e : blockOf range ≡ blockIn (decodeNodes d mem) w i = b ∙ sym (rw live) in
+      subst (λ (p : ℕ). Claim (arenaIn d w mem) (blockIn (decodeNodes d mem) w i) p before after r) ea
+      (subst (λ (x : Block). Claim (arenaIn d w mem) x at before after r) e
+      (subst (λ (a : Arena). Claim a (blockOf range) at before after r) arena-read c))
 
 -- ---- where the marks lie
 
@@ -122,6 +122,9 @@ marks-within l children = omega arith
 marks-within l attributes = omega arith
 marks-within l namespaces = omega arith
 
+pub cleared-at : (at used p u : ℕ) (before after : List ℕ) → at ≡ p → used ≡ u → after ≡ put at (replicate used 0) before → after ≡ put p (replicate u 0) before
+cleared-at at used p u before after e f q = q ∙ ap₂ (λ (i n : ℕ). put i (replicate n 0) before) e f
+
 -- what test 4 tells of scratch
 pub buffers-memory : (d : Document) (mem scratch : ℕ) → buffersOk d mem scratch ≡ true → memoryOk d mem ≡ true
 unfolding buffersOk
@@ -130,23 +133,14 @@ buffers-memory d mem scratch h = and-left (memoryOk d mem) (leb (scratchWords (l
 pub buffers-kept : (d : Document) (mem scratch scratch′ : ℕ) → buffersOk d mem scratch ≡ true → scratch′ ≡ scratch → buffersOk d mem scratch′ ≡ true
 buffers-kept d mem scratch scratch′ h e = ap (buffersOk d mem) e ∙ h
 
-pub marks-inside : (d : Document) (mem scratch : ℕ) (w : Which) → buffersOk d mem scratch ≡ true → marksAt (limitsOf (d .limits)) w + arenaUsed d w ≤ scratch
+pub buffers-scratch : (d : Document) (mem scratch : ℕ) → buffersOk d mem scratch ≡ true → scratchWords (limitsOf (d .limits)) ≤ scratch
 unfolding buffersOk
-marks-inside d mem scratch w h =
-    let b = leb-true (scratchWords (limitsOf (d .limits))) scratch (and-right (memoryOk d mem) (leb (scratchWords (limitsOf (d .limits))) scratch) h) in
-    omega (arith, marks-within (limitsOf (d .limits)) w)
+buffers-scratch d mem scratch h = leb-true (scratchWords (limitsOf (d .limits))) scratch (and-right (memoryOk d mem) (leb (scratchWords (limitsOf (d .limits))) scratch) h)
 
-pub marks-narrow : (d : Document) (mem : ℕ) (w : Which) → memoryOk d mem ≡ true → marksAt (limitsOf (d .limits)) w + arenaUsed d w < 4294967296
-unfolding scratchWords
-marks-narrow d mem w h =
-    let f = limits-fit (limitsOf (d .limits)) (memory-limits d mem h) in
-    omega (arith, marks-within (limitsOf (d .limits)) w)
+pub marks-inside : (d : Document) (w : Which) → marksAt (limitsOf (d .limits)) w + arenaUsed d w ≤ scratchWords (limitsOf (d .limits))
+marks-inside d w = omega (arith, marks-within (limitsOf (d .limits)) w)
 
 -- ---- the rule
-
-pub claims-met : (d : Document) (mem : List ℕ) (w : Which) (r : Bool) → r ≡ allClaimable (arenaIn d w mem) (blockIn (decodeNodes d mem) w) (slotsMade d) → r ≡ claimsMet (decodeNodes d mem) w
-unfolding claimsMet
-claims-met d mem w r e = e ∙ ap (allClaimable (arenaIn d w mem) (blockIn (decodeNodes d mem) w)) (sym (length-gens noTexts [] true d mem))
 
 module _ (d : Document) (mem : List ℕ) (ok : memoryOk d (length mem) ≡ true) where
   abbrev doc : Doc
@@ -166,23 +160,9 @@ module _ (d : Document) (mem : List ℕ) (ok : memoryOk d (length mem) ≡ true)
       let e = block-past w k h in
       (ap (λ (x : Block). x .len) e, omega (arith, ap (λ (x : Block). x .start) e))
 
-  blocks-decided : allWhich (claimsMet doc) ≡ blocksHold doc
+  pub blocks-decided : allWhich (claimsMet doc) ≡ blocksHold doc
   unfolding claimsMet
   blocks-decided =
       both-ways (allWhich (claimsMet doc)) (blocksHold doc)
       (λ e. test-of-blocks doc (λ w. decided-rule (arenaIn d w mem) (blockIn doc w) (length (doc .gens)) (arena-shaped w) (rest w) (which-at (claimsMet doc) e w)))
       (λ e. at-which (claimsMet doc) (λ w. rule-decided (arenaIn d w mem) (blockIn doc w) (length (doc .gens)) (blocks-of-test doc (shape noTexts [] true d mem ok) e w)))
-
-  module _ (a : Bool) (ea : a ≡ claimsMet (decodeNodes d mem) children) where
-    pub children-clash : not a ≡ true → false ≡ blocksHold (decodeNodes d mem)
-    unfolding allWhich
-    children-clash q = sym (rw (← ea, not-true a q)) ∙ blocks-decided
-
-    module _ (p : not a ≡ false) (b : Bool) (eb : b ≡ claimsMet (decodeNodes d mem) attributes) where
-      pub attributes-clash : not b ≡ true → false ≡ blocksHold (decodeNodes d mem)
-      unfolding allWhich
-      attributes-clash q = sym (rw (← ea, ← eb, not-false a p, not-true b q)) ∙ blocks-decided
-
-      pub namespaces-decide : not b ≡ false → (r : Bool) → r ≡ claimsMet (decodeNodes d mem) namespaces → r ≡ blocksHold (decodeNodes d mem)
-      unfolding allWhich
-      namespaces-decide q r er = er ∙ sym (rw (← ea, ← eb, not-false a p, not-false b q)) ∙ blocks-decided

@@ -1,7 +1,7 @@
 -- Rule 1: the tests of the counts, of the words and of the Root are the rule's.
 -- Assumes nothing.
 use mathlib.Core.Path.{_≡_, refl, sym, ap, ap₂, _∙_}
-use mathlib.Core.Bool.{Bool, true, false, not, _&&_, cond, and-true, and-false}
+use mathlib.Core.Bool.{Bool, true, false, not, _&&_, cond, and-true}
 use mathlib.Core.Option.{none}
 use mathlib.Core.List.{List, []}
 use Prim.Native.Nat.{ℕ, _+_, _*_, _%_, _≤_, _<_}
@@ -39,9 +39,9 @@ use Rattle.memory.specs.Decode.{handleOf, kindLoaded, countsWithin, slotsPart, 
 use Rattle.memory.proofs.Columns.{length-gens, generation-in, kind-column, order-in, generation-past}
 use Rattle.entries.specs.Nodes.{noTexts, decodeNodes, wordsHold, kindNumber}
 use Rattle.entries.proofs.Words.{generation-word, live-word}
-use Rattle.structure.specs.Tests.{fitsAt, capacitiesFit, arenasFit, rootStands, rootTest, onlyRoot}
+use Rattle.structure.specs.Tests.{fitsAt, capacitiesFit, arenasFit, rootStands, rootTest, onlyRoot, fieldsFit}
 use Rattle.structure.proofs.KindNumbers.{root-kind}
-use Rattle.structure.proofs.Lists.{both-ways, not-true, not-false}
+use Rattle.structure.proofs.Lists.{both-ways, not-false, ended, decided}
 
 -- ---- the counts
 
@@ -154,16 +154,11 @@ module _ (d : Document) (mem : List ℕ) where
     unfolding rootTest
     root-first e = sym (rw (eq-eqb i 0 e) (root-anywhere (liveSlot doc i) (isRoot (kindIn doc i))))
 
-    module _ (t : Bool) (e : t ≡ liveSlot (decodeNodes d mem) i) where
-      pub no-other-root : (i ≡ 0 → ⊥) → t ≡ true → (kind : ℕ) → kind ≡ kindNumber (kindIn (decodeNodes d mem) i) → not (eqb kind 0) ≡ rootTest (decodeNodes d mem) i
-      unfolding rootTest
-      no-other-root n y kind k =
-          ap not (ap (λ (x : ℕ). eqb x 0) k ∙ root-kind (kindIn doc i))
-          ∙ sym (rw (sym e ∙ y, ne-eqb i 0 n) (root-nowhere (isRoot (kindIn doc i))))
-
-      pub no-root : t ≡ false → true ≡ rootTest (decodeNodes d mem) i
-      unfolding rootTest
-      no-root q = sym (rw (sym e ∙ q))
+    pub no-other-root : (i ≡ 0 → ⊥) → liveSlot (decodeNodes d mem) i ≡ true → (kind : ℕ) → kind ≡ kindNumber (kindIn (decodeNodes d mem) i) → not (eqb kind 0) ≡ rootTest (decodeNodes d mem) i
+    unfolding rootTest
+    no-other-root n l kind k =
+        ap not (ap (λ (x : ℕ). eqb x 0) k ∙ root-kind (kindIn doc i))
+        ∙ sym (rw (l, ne-eqb i 0 n) (root-nowhere (isRoot (kindIn doc i))))
 
   pub all-roots : allBelow (rootTest (decodeNodes d mem)) (slotsMade d) ≡ onlyRoot (decodeNodes d mem)
   unfolding rootTest onlyRoot allLive
@@ -274,26 +269,41 @@ module _ (d : Document) (mem : List ℕ) where
   unfolding countsAndFieldsHold
   fields-are = ap₂ _&&_ (ap₂ _&&_ counts-same words-same) root-same
 
-  module _ (slots : Bool) (es : slots ≡ wordsHold d mem) where
-    pub fields-broken : not slots ≡ true → false ≡ countsAndFieldsHold (decodeNodes d mem)
-    fields-broken q =
-        sym (ap (λ (t : Bool). t && (rootStands nodes && onlyRoot nodes))
-        (ap (λ (t : Bool). countsWithin (limitsOf (d .limits)) (d .counts) && (t && arenasFit nodes)) (sym es ∙ not-true slots q)
-        ∙ and-false (countsWithin (limitsOf (d .limits)) (d .counts))))
-        ∙ fields-are
+  module _ (counts slots t : Bool) (ec : counts ≡ countsWithin (limitsOf (d .limits)) (d .counts)) (es : slots ≡ wordsHold d mem) (et : t ≡ (counts && slots)) where
+    first-tests : t ≡ (countsWithin (limitsOf (d .limits)) (d .counts) && holds)
+    first-tests = et ∙ ap₂ _&&_ ec es
 
-    pub fields-hold : not slots ≡ false → (counts arenas stands only a b r : Bool) → counts ≡ countsWithin (limitsOf (d .limits)) (d .counts)
-        → arenas ≡ arenasFit (decodeNodes d mem) → a ≡ (counts && arenas) → stands ≡ rootStands (decodeNodes d mem) → only ≡ onlyRoot (decodeNodes d mem) → b ≡ (stands && only)
-        → r ≡ (a && b) → r ≡ countsAndFieldsHold (decodeNodes d mem)
-    fields-hold y counts arenas stands only a b r ec ea qa et eo qb qr =
-        qr
-        ∙ ap₂ _&&_ (qa ∙ ap₂ _&&_ ec ea) (qb ∙ ap₂ _&&_ et eo)
-        ∙ ap (λ (t : Bool). countsWithin (limitsOf (d .limits)) (d .counts) && (t && arenasFit nodes) && (rootStands nodes && onlyRoot nodes)) (sym (not-false slots y) ∙ es)
-        ∙ fields-are
+    pub fields-broken : not t ≡ true → false ≡ fieldsFit d mem
+    unfolding fieldsFit
+    fields-broken q = ended (countsWithin (limitsOf (d .limits)) (d .counts) && holds) (arenasFit nodes && rootStands nodes) t true first-tests q
+
+    module _ (q : not t ≡ false) where
+      pub words-tested : wordsHold d mem ≡ true
+      words-tested = and-right (countsWithin (limitsOf (d .limits)) (d .counts)) holds (sym first-tests ∙ not-false t q)
+
+      pub fields-tested : (arenas stands r : Bool) → arenas ≡ arenasFit (decodeNodes d mem) → stands ≡ rootStands (decodeNodes d mem) → r ≡ (arenas && stands) → r ≡ fieldsFit d mem
+      unfolding fieldsFit
+      fields-tested arenas stands r ea er e =
+          decided (countsWithin (limitsOf (d .limits)) (d .counts) && holds) (arenasFit nodes && rootStands nodes) t r first-tests q (e ∙ ap₂ _&&_ ea er)
+
+  pub fields-decide : (fieldsFit d mem && onlyRoot (decodeNodes d mem)) ≡ countsAndFieldsHold (decodeNodes d mem)
+  unfolding fieldsFit
+  fields-decide = regrouped (countsWithin (limitsOf (d .limits)) (d .counts)) holds (arenasFit nodes) (rootStands nodes) (onlyRoot nodes) ∙ fields-are
+    where
+      regrouped : (p q r s t : Bool) → ((p && q && (r && s)) && t) ≡ (p && (q && r) && (s && t))
+      regrouped true true true s t = refl
+      regrouped true true false s t = refl
+      regrouped true false r s t = refl
+      regrouped false q r s t = refl
 
   -- what the other rules' checks build on
+  pub counts-fit : fieldsFit d mem ≡ true → countsWithin (limitsOf (d .limits)) (d .counts) ≡ true
+  unfolding fieldsFit
+  counts-fit h = search (and-left, and-right)
+
+  pub words-fit : fieldsFit d mem ≡ true → wordsHold d mem ≡ true
+  unfolding fieldsFit
+  words-fit h = search (and-left, and-right)
+
   pub words-there : countsAndFieldsHold (decodeNodes d mem) ≡ true → wordsHold d mem ≡ true
-  words-there h =
-      let all = fields-are ∙ h in
-      let front = and-left (countsWithin (limitsOf (d .limits)) (d .counts) && (holds && arenasFit nodes)) (rootStands nodes && onlyRoot nodes) all in
-      and-left holds (arenasFit nodes) (and-right (countsWithin (limitsOf (d .limits)) (d .counts)) (holds && arenasFit nodes) front)
+  words-there h = words-fit (and-left (fieldsFit d mem) (onlyRoot nodes) (fields-decide ∙ h))

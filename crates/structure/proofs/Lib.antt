@@ -4,6 +4,7 @@ pub mod Owners
 pub mod FreeStacks
 pub mod CountsAndFields
 pub mod Claimed
+pub mod Turns
 pub mod RootElement
 pub mod TextsShown
 pub mod Together

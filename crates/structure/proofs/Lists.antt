@@ -1,13 +1,10 @@
--- A loop that tests each number below a count, and Bools that say the same.
+-- Bools that say the same, tests one after another, and cleared words.
 -- Assumes nothing.
 use mathlib.Core.Path.{_≡_, refl, sym, ap, _∙_}
 use mathlib.Core.Bool.{Bool, true, false, not, _&&_, false≢true, true≢false}
 use mathlib.Core.List.{List}
-use Prim.Native.Nat.{ℕ, _+_, _≤_, _<_}
-use native.Mathlib.Omega.{arith}
+use Prim.Native.Nat.{ℕ}
 use lib.ListN.{length, replicate, length-replicate}
-use Rattle.words.specs.Lists.{allBelow}
-use Rattle.slots.proofs.Lists.{allBelow-next, allBelow-not}
 
 pub not-false : (t : Bool) → not t ≡ false → t ≡ true
 not-false true h = refl
@@ -16,20 +13,6 @@ not-false false h = absurd (true≢false h)
 pub not-true : (t : Bool) → not t ≡ true → t ≡ false
 not-true true h = absurd (false≢true h)
 not-true false h = refl
-
--- s is how far the loop came, t what it found there, count where it ends, r the answer
-module _ (p : ℕ → Bool) where
-  pub below-next : (s : ℕ) (t : Bool) → allBelow p s ≡ true → t ≡ p s → not t ≡ false → allBelow p (s + 1) ≡ true
-  below-next s t h e q = allBelow-next p s h (sym e ∙ not-false t q)
-
-  module _ (n : ℕ) (r : Bool) (all : allBelow p n ≡ r) (count : ℕ) (c : count ≡ n) (s : ℕ) where
-    pub below-not : s < count → (t : Bool) → t ≡ p s → not t ≡ true → false ≡ r
-    below-not b t e q = sym (allBelow-not p n s (omega arith) (sym e ∙ not-true t q)) ∙ all
-
-    pub below-all : s ≤ count → count ≤ s → allBelow p s ≡ true → true ≡ r
-    below-all a b h =
-        let e : s ≡ n = omega arith in
-        sym (rw e at h) ∙ all
 
 -- cleared words, as long as they are
 pub cleared : (m m′ : List ℕ) → m′ ≡ replicate (length m) 0 → m′ ≡ replicate (length m′) 0

@@ -13,12 +13,13 @@ use Rattle.slots.specs.declared.NodeId.{NodeId}
 use Rattle.slots.specs.declared.Parent.{Parent}
 use Rattle.slots.specs.declared.Parent.the-variants.{None, Of}
 use Rattle.model.specs.Doc.{Doc, liveSlot, resolves, kindIn, kindAt, parentIn}
-use Rattle.model.specs.RulesTest.{implies, allLive, parentHolds, parentsHold}
+use Rattle.model.specs.RulesTest.{allLive, parentHolds, parentsHold}
 use Rattle.memory.specs.declared.layout.Document.{Document}
 use Rattle.memory.specs.Decode.{handleOf, slotsMade}
 use Rattle.memory.proofs.Columns.{length-gens}
 use Rattle.entries.specs.Nodes.{noTexts, decodeNodes, kindNumber}
-use Rattle.structure.specs.Tests.{childNumber, ownsNumber, parentTest}
+use Rattle.structure.specs.Tests.{childNumber, ownsNumber, rootTest, parentTest}
+use Rattle.structure.specs.Turns.{ownerHolds}
 use Rattle.structure.proofs.KindNumbers.{child-kind, owns-kind}
 
 -- ---- kinds by their numbers
@@ -71,14 +72,19 @@ module _ (D : Doc) (i kind : ℕ) (k : kind ≡ kindNumber (kindIn D i)) (p : Pa
 
 -- ---- a slot
 
-module _ (D : Doc) (i : ℕ) (t : Bool) (e : t ≡ liveSlot D i) where
-  pub slot-live : t ≡ true → (r : Bool) → r ≡ parentHolds D i (parentIn D i) → r ≡ parentTest D i
+module _ (D : Doc) (i : ℕ) (live : liveSlot D i ≡ true) where
+  parent-tested : parentHolds D i (parentIn D i) ≡ parentTest D i
   unfolding parentTest
-  slot-live y r f = f ∙ ap (λ (u : Bool). implies u (parentHolds D i (parentIn D i))) (sym y ∙ e)
+  parent-tested = sym (rw live)
 
-  pub slot-free : t ≡ false → true ≡ parentTest D i
-  unfolding parentTest
-  slot-free n = ap (λ (u : Bool). implies u (parentHolds D i (parentIn D i))) (sym n ∙ e)
+  module _ (t : Bool) (e : t ≡ rootTest D i) where
+    pub owner-held : t ≡ true → (r : Bool) → r ≡ parentHolds D i (parentIn D i) → r ≡ ownerHolds D i
+    unfolding ownerHolds
+    owner-held y r f = f ∙ parent-tested ∙ ap (λ (u : Bool). u && parentTest D i) (sym y ∙ e)
+
+    pub owner-none : t ≡ false → false ≡ ownerHolds D i
+    unfolding ownerHolds
+    owner-none n = ap (λ (u : Bool). u && parentTest D i) (sym n ∙ e)
 
 pub all-parents : (d : Document) (mem : List ℕ) → allBelow (parentTest (decodeNodes d mem)) (slotsMade d) ≡ parentsHold (decodeNodes d mem)
 unfolding parentTest parentsHold allLive

@@ -1,7 +1,7 @@
 -- The rules together: the order in which they are tested, and that all but rule 8 read neither texts nor names where the lengths add up.
 -- Assumes nothing.
 use mathlib.Core.Path.{_≡_, refl, sym, ap, ap₂, _∙_}
-use mathlib.Core.Bool.{Bool, true, false, not, _&&_, and-comm, and-false}
+use mathlib.Core.Bool.{Bool, true, false, not, _&&_, and-false}
 use mathlib.Core.Option.{Option, none, some}
 use mathlib.Core.List.{List}
 use Prim.Native.Nat.{ℕ, zero, suc, _≤_}
@@ -12,15 +12,15 @@ use borrow.Author.Tests.{leb-true}
 use Rattle.words.proofs.Tests.{and-left, and-right}
 use Rattle.slots.specs.Handles.{handleIndex}
 use Rattle.slots.proofs.Lists.{allBelow-same}
-use Rattle.model.specs.Doc.{Doc, liveSlot, parentIn}
+use Rattle.model.specs.Doc.{liveSlot, parentIn}
 use Rattle.model.specs.RulesTest.{implies, allOption, allSlots, allLive, countsAndFieldsHold, freeListHolds, parentHolds, parentsHold, endsWithin, entriesHold, arenaHolds, blocksHold, parentsEndHolds, oneRootElementHolds, textsHold, rulesHold}
-use Rattle.model.proofs.RulesTestFields.{fields-of-test}
 use Rattle.memory.specs.declared.layout.Document.{Document}
 use Rattle.memory.specs.Layout.{limitsOf, scratchWords, memoryOk, buffersOk}
-use Rattle.memory.specs.Decode.{countsWithin, slotsMade, lengthsAdd, decode}
+use Rattle.memory.specs.Decode.{slotsMade, lengthsAdd, decode}
 use Rattle.entries.specs.Nodes.{decodeNodes}
-use Rattle.structure.specs.Tests.{nodeRulesHold}
-use Rattle.structure.proofs.Lists.{not-true, not-false, ended, decided}
+use Rattle.structure.specs.Tests.{onlyRoot, fieldsFit, eachHolds}
+use Rattle.structure.proofs.Lists.{not-false, both-ways, ended, decided, ended-first, ended-second, decided-third}
+use Rattle.structure.proofs.CountsAndFields.{fields-decide}
 use Rattle.structure.proofs.TextsShown.{fields-decoded}
 
 -- scratch has a word for each slot made
@@ -32,43 +32,56 @@ slots-inside d mem scratch h =
 
 -- ---- the order of the tests
 
-regrouped : (p q r s t : Bool) → (p && r && (q && t && s)) ≡ (p && q && r && s && t)
-regrouped false q r s t = refl
-regrouped true false true s t = refl
-regrouped true false false s t = refl
-regrouped true true false s t = refl
-regrouped true true true s t = and-comm t s
+regrouped : (f o r p e b n q t : Bool) → ((f && r) && (((o && p) && b) && t) && ((e && q) && n)) ≡ ((((((((f && o) && r) && p) && e) && b) && n) && q) && t)
+regrouped f o r p e b n q t =
+    both-ways ((f && r) && (((o && p) && b) && t) && ((e && q) && n)) ((((((((f && o) && r) && p) && e) && b) && n) && q) && t) there back
+  where
+    there : ((f && r) && (((o && p) && b) && t) && ((e && q) && n)) ≡ true → ((((((((f && o) && r) && p) && e) && b) && n) && q) && t) ≡ true
+    there h =
+        let hf : f ≡ true = search (and-left, and-right) depth 9 in
+        let ho : o ≡ true = search (and-left, and-right) depth 9 in
+        let hr : r ≡ true = search (and-left, and-right) depth 9 in
+        let hp : p ≡ true = search (and-left, and-right) depth 9 in
+        let he : e ≡ true = search (and-left, and-right) depth 9 in
+        let hb : b ≡ true = search (and-left, and-right) depth 9 in
+        let hn : n ≡ true = search (and-left, and-right) depth 9 in
+        let hq : q ≡ true = search (and-left, and-right) depth 9 in
+        let ht : t ≡ true = search (and-left, and-right) depth 9 in
+        rw (hf, ho, hr, hp, he, hb, hn, hq, ht)
 
-module _ (D : Doc) (slots : Bool) (e : slots ≡ (countsAndFieldsHold D && freeListHolds D && parentsHold D)) where
-  pub slots-broken : not slots ≡ true → false ≡ nodeRulesHold D
-  unfolding nodeRulesHold
-  slots-broken q = sym (rw (← e, not-true slots q))
+    back : ((((((((f && o) && r) && p) && e) && b) && n) && q) && t) ≡ true → ((f && r) && (((o && p) && b) && t) && ((e && q) && n)) ≡ true
+    back h =
+        let hf : f ≡ true = search (and-left, and-right) depth 9 in
+        let ho : o ≡ true = search (and-left, and-right) depth 9 in
+        let hr : r ≡ true = search (and-left, and-right) depth 9 in
+        let hp : p ≡ true = search (and-left, and-right) depth 9 in
+        let he : e ≡ true = search (and-left, and-right) depth 9 in
+        let hb : b ≡ true = search (and-left, and-right) depth 9 in
+        let hn : n ≡ true = search (and-left, and-right) depth 9 in
+        let hq : q ≡ true = search (and-left, and-right) depth 9 in
+        let ht : t ≡ true = search (and-left, and-right) depth 9 in
+        rw (hf, ho, hr, hp, he, hb, hn, hq, ht)
 
-  module _ (q : not slots ≡ false) where
-    slots-hold : (countsAndFieldsHold D && freeListHolds D && parentsHold D) ≡ true
-    slots-hold = sym e ∙ not-false slots q
+module _ (d : Document) (mem : List ℕ) where
+  each-parents : eachHolds d mem ≡ true → parentsHold (decodeNodes d mem) ≡ true
+  unfolding eachHolds
+  each-parents h = search (and-left, and-right)
 
-    pub fields-there : countsAndFieldsHold D ≡ true
-    fields-there =
-        and-left (countsAndFieldsHold D) (freeListHolds D)
-        (and-left (countsAndFieldsHold D && freeListHolds D) (parentsHold D) slots-hold)
+  each-blocks : eachHolds d mem ≡ true → blocksHold (decodeNodes d mem) ≡ true
+  unfolding eachHolds
+  each-blocks h = search (and-left, and-right)
 
-    pub parents-there : parentsHold D ≡ true
-    parents-there = and-right (countsAndFieldsHold D && freeListHolds D) (parentsHold D) slots-hold
+  each-root : eachHolds d mem ≡ true → onlyRoot (decodeNodes d mem) ≡ true
+  unfolding eachHolds
+  each-root h = search (and-left, and-right)
 
-    module _ (blocks : Bool) (f : blocks ≡ blocksHold D) where
-      pub blocks-broken : not blocks ≡ true → false ≡ nodeRulesHold D
-      unfolding nodeRulesHold
-      blocks-broken p =
-          sym (sym (regrouped (countsAndFieldsHold D && freeListHolds D && parentsHold D) (entriesHold D) (blocksHold D) (parentsEndHolds D) (oneRootElementHolds D))
-          ∙ rw (slots-hold, ← f, not-true blocks p))
+  pub each-ended : (t : Bool) → t ≡ (onlyRoot (decodeNodes d mem) && parentsHold (decodeNodes d mem) && blocksHold (decodeNodes d mem)) → not t ≡ true → false ≡ eachHolds d mem
+  unfolding eachHolds
+  each-ended t e q = ended (onlyRoot (decodeNodes d mem) && parentsHold (decodeNodes d mem) && blocksHold (decodeNodes d mem)) (textsHold (decode d mem)) t true e q
 
-      pub links-decide : not blocks ≡ false → (r : Bool) → r ≡ (entriesHold D && oneRootElementHolds D && parentsEndHolds D) → r ≡ nodeRulesHold D
-      unfolding nodeRulesHold
-      links-decide p r g =
-          g
-          ∙ sym (sym (regrouped (countsAndFieldsHold D && freeListHolds D && parentsHold D) (entriesHold D) (blocksHold D) (parentsEndHolds D) (oneRootElementHolds D))
-          ∙ rw (slots-hold, ← f, not-false blocks p))
+  pub texts-decide : (t : Bool) → t ≡ (onlyRoot (decodeNodes d mem) && parentsHold (decodeNodes d mem) && blocksHold (decodeNodes d mem)) → not t ≡ false → (r : Bool) → r ≡ textsHold (decode d mem) → r ≡ eachHolds d mem
+  unfolding eachHolds
+  texts-decide t e q r f = decided (onlyRoot (decodeNodes d mem) && parentsHold (decodeNodes d mem) && blocksHold (decodeNodes d mem)) (textsHold (decode d mem)) t r e q f
 
 -- ---- with texts and names
 
@@ -117,46 +130,75 @@ module _ (d : Document) (mem : List ℕ) (ok : memoryOk d (length mem) ≡ true)
   unfolding oneRootElementHolds
   root-decoded = refl
 
-  -- where the lengths add up; where they do not, rule 8 is broken
-  nodes-decoded : lengthsAdd d mem ≡ true → nodeRulesHold (decodeNodes d mem) ≡ nodeRulesHold (decode d mem)
-  unfolding nodeRulesHold
-  nodes-decoded h =
-      ap₂ _&&_
-      (ap₂ _&&_ (ap₂ _&&_ (ap₂ _&&_ (ap₂ _&&_ (ap₂ _&&_ (sym (fields-decoded d mem ok h)) free-decoded) parents-decoded) entries-decoded) blocks-decoded) ends-decoded)
-      root-decoded
+  fields-decoded-there : lengthsAdd d mem ≡ true → (fieldsFit d mem && onlyRoot (decodeNodes d mem)) ≡ countsAndFieldsHold (decode d mem)
+  fields-decoded-there h = fields-decide d mem ∙ sym (fields-decoded d mem ok h)
 
+  -- where the lengths do not add up, rule 8 is broken
   no-lengths : lengthsAdd d mem ≡ false → textsHold (decode d mem) ≡ false
   unfolding textsHold
   no-lengths h = rw h
 
-  module _ (nodes : Bool) (e : nodes ≡ nodeRulesHold (decodeNodes d mem)) where
-    pub rules-broken : not nodes ≡ true → false ≡ rulesHold (decode d mem)
-    unfolding rulesHold nodeRulesHold
-    rules-broken q = go (lengthsAdd d mem) refl
-      where
-        go : (a : Bool) → lengthsAdd d mem ≡ a → false ≡ (nodeRulesHold (decode d mem) && textsHold (decode d mem))
-        go true h = ended (nodeRulesHold (decode d mem)) (textsHold (decode d mem)) nodes true (e ∙ nodes-decoded h) q
-        go false h = sym (ap (λ (t : Bool). nodeRulesHold (decode d mem) && t) (no-lengths h) ∙ and-false (nodeRulesHold (decode d mem)))
+  abbrev links : Bool
+  links = entriesHold (decodeNodes d mem) && oneRootElementHolds (decodeNodes d mem) && parentsEndHolds (decodeNodes d mem)
 
-    pub texts-decide : not nodes ≡ false → (r : Bool) → r ≡ textsHold (decode d mem) → r ≡ rulesHold (decode d mem)
-    unfolding rulesHold nodeRulesHold
-    texts-decide q r f = go (lengthsAdd d mem) refl
-      where
-        go : (a : Bool) → lengthsAdd d mem ≡ a → r ≡ (nodeRulesHold (decode d mem) && textsHold (decode d mem))
-        go true h = decided (nodeRulesHold (decode d mem)) (textsHold (decode d mem)) nodes r (e ∙ nodes-decoded h) q f
-        go false h =
-            f ∙ no-lengths h ∙ sym (ap (λ (t : Bool). nodeRulesHold (decode d mem) && t) (no-lengths h) ∙ and-false (nodeRulesHold (decode d mem)))
+  abbrev each : Bool
+  each = onlyRoot (decodeNodes d mem) && parentsHold (decodeNodes d mem) && blocksHold (decodeNodes d mem)
 
-    -- what rule 8 relies on
-    pub fields-kept : not nodes ≡ false → countsAndFieldsHold (decodeNodes d mem) ≡ true
-    unfolding nodeRulesHold
-    fields-kept q = go (sym e ∙ not-false nodes q)
-      where
-        go : nodeRulesHold (decodeNodes d mem) ≡ true → countsAndFieldsHold (decodeNodes d mem) ≡ true
-        go h = search and-left depth 8
+  abbrev others : Bool
+  others =
+      countsAndFieldsHold (decode d mem) && freeListHolds (decode d mem) && parentsHold (decode d mem) && entriesHold (decode d mem)
+      && blocksHold (decode d mem) && parentsEndHolds (decode d mem) && oneRootElementHolds (decode d mem)
 
-    pub counts-there : not nodes ≡ false → countsWithin (limitsOf (d .limits)) (d .counts) ≡ true
-    counts-there q = fields-of-test (decodeNodes d mem) (fields-kept q) .counts
+  rules-are : ((fieldsFit d mem && freeListHolds (decodeNodes d mem)) && eachHolds d mem && links) ≡ rulesHold (decode d mem)
+  unfolding eachHolds rulesHold
+  rules-are = go (lengthsAdd d mem) refl
+    where
+      broken : (a b c : Bool) → (a && (b && false) && c) ≡ false
+      broken true true c = refl
+      broken true false c = refl
+      broken false b c = refl
+
+      go : (a : Bool) → lengthsAdd d mem ≡ a → ((fieldsFit d mem && freeListHolds (decodeNodes d mem)) && (each && textsHold (decode d mem)) && links) ≡ (others && textsHold (decode d mem))
+      go true h =
+          regrouped (fieldsFit d mem) (onlyRoot (decodeNodes d mem)) (freeListHolds (decodeNodes d mem)) (parentsHold (decodeNodes d mem)) (entriesHold (decodeNodes d mem)) (blocksHold (decodeNodes d mem))
+          (parentsEndHolds (decodeNodes d mem)) (oneRootElementHolds (decodeNodes d mem)) (textsHold (decode d mem))
+          ∙ ap (λ (t : Bool). t && textsHold (decode d mem))
+          (ap₂ _&&_
+          (ap₂ _&&_ (ap₂ _&&_ (ap₂ _&&_ (ap₂ _&&_ (ap₂ _&&_ (fields-decoded-there h) free-decoded) parents-decoded) entries-decoded) blocks-decoded) ends-decoded)
+          root-decoded)
+      go false h =
+          ap (λ (t : Bool). (fieldsFit d mem && freeListHolds (decodeNodes d mem)) && (each && t) && links) (no-lengths h)
+          ∙ broken (fieldsFit d mem && freeListHolds (decodeNodes d mem)) each links
+          ∙ sym (ap (λ (t : Bool). others && t) (no-lengths h) ∙ and-false others)
+
+  module _ (slots : Bool) (e : slots ≡ (fieldsFit d mem && freeListHolds (decodeNodes d mem))) where
+    pub slots-broken : not slots ≡ true → false ≡ rulesHold (decode d mem)
+    slots-broken q = ended-first (fieldsFit d mem && freeListHolds (decodeNodes d mem)) (eachHolds d mem) links slots e q ∙ rules-are
+
+    module _ (q : not slots ≡ false) where
+      pub fields-there : fieldsFit d mem ≡ true
+      fields-there = and-left (fieldsFit d mem) (freeListHolds (decodeNodes d mem)) (sym e ∙ not-false slots q)
+
+      module _ (turns : Bool) (f : turns ≡ eachHolds d mem) where
+        pub each-broken : not turns ≡ true → false ≡ rulesHold (decode d mem)
+        each-broken p = ended-second (fieldsFit d mem && freeListHolds (decodeNodes d mem)) (eachHolds d mem) links slots turns true e q f p ∙ rules-are
+
+        pub links-decide : not turns ≡ false → (r : Bool) → r ≡ (entriesHold (decodeNodes d mem) && oneRootElementHolds (decodeNodes d mem) && parentsEndHolds (decodeNodes d mem)) → r ≡ rulesHold (decode d mem)
+        links-decide p r g = decided-third (fieldsFit d mem && freeListHolds (decodeNodes d mem)) (eachHolds d mem) links slots turns r e q f p g ∙ rules-are
+
+        -- what the links are followed by
+        module _ (p : not turns ≡ false) where
+          held : eachHolds d mem ≡ true
+          held = sym f ∙ not-false turns p
+
+          pub parents-there : parentsHold (decodeNodes d mem) ≡ true
+          parents-there = each-parents d mem held
+
+          pub blocks-there : blocksHold (decodeNodes d mem) ≡ true
+          blocks-there = each-blocks d mem held
+
+          pub fields-held : countsAndFieldsHold (decodeNodes d mem) ≡ true
+          fields-held = sym (fields-decide d mem) ∙ ap₂ _&&_ fields-there (each-root d mem held)
 
 -- scratch has a word for each text slot
 pub texts-inside : (d : Document) (mem scratch : ℕ) → buffersOk d mem scratch ≡ true → d .limits .texts ≤ scratch

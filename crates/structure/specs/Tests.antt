@@ -10,7 +10,11 @@ use Rattle.blocks.specs.Claims.{allClaimable}
 use Rattle.model.specs.Kinds.{Which, isElement, isRoot}
 use Rattle.model.specs.Doc.{Doc, generationAt, liveSlot, kindIn, kindAt, parentIn, isNone, anyOption}
 use Rattle.model.specs.Rules.{blockIn}
-use Rattle.model.specs.RulesTest.{implies, fitsField, allWhich, allLive, countsAndFieldsHold, freeListHolds, parentHolds, parentsHold, entriesHold, blocksHold, parentsEndHolds, oneRootElementHolds}
+use Rattle.model.specs.RulesTest.{implies, fitsField, allWhich, allLive, parentHolds, parentsHold, blocksHold, textsHold}
+use Rattle.memory.specs.declared.layout.Document.{Document}
+use Rattle.memory.specs.Layout.{limitsOf}
+use Rattle.memory.specs.Decode.{countsWithin, decode}
+use Rattle.entries.specs.Nodes.{decodeNodes, wordsHold}
 
 -- ---- rule 1
 
@@ -60,8 +64,13 @@ claimsMet D w = allClaimable (D .arenas w) (blockIn D w) (length (D .gens))
 unfoldable pub elementTest : Doc → ℕ → Bool
 elementTest D h = isElement (kindAt D h)
 
--- ---- the rules that read the nodes: all but rule 8
+-- ---- the order of the tests
 
-unfoldable pub nodeRulesHold : Doc → Bool
-nodeRulesHold D =
-    countsAndFieldsHold D && freeListHolds D && parentsHold D && entriesHold D && blocksHold D && parentsEndHolds D && oneRootElementHolds D
+-- rule 1, but for other Roots
+unfoldable pub fieldsFit : Document → List ℕ → Bool
+fieldsFit d mem =
+    countsWithin (limitsOf (d .limits)) (d .counts) && wordsHold d mem && (arenasFit (decodeNodes d mem) && rootStands (decodeNodes d mem))
+
+-- what a pass over the slots decides: the rest of rule 1, and rules 3, 5 and 8
+unfoldable pub eachHolds : Document → List ℕ → Bool
+eachHolds d mem = onlyRoot (decodeNodes d mem) && parentsHold (decodeNodes d mem) && blocksHold (decodeNodes d mem) && textsHold (decode d mem)

@@ -1,71 +1,24 @@
 // Rule 5: "Non-empty blocks with their capacities lie inside the arena and don't overlap. An empty block's start is at most the arena's length."
 ghost use mathlib.Core.Path.{_≡_};
 ghost use mathlib.Core.Bool.{true};
-ghost use Prim.Native.Nat.{_<_};
-ghost use lib.ListN.{length};
-ghost use Rattle.blocks.specs.Claims.{blockClaimable, blockClaimed, allClaimable};
-ghost use Rattle.model.specs.Doc.{limitsOk};
+ghost use Prim.Native.Nat.{_+_, _≤_};
+ghost use lib.ListN.{length, replicate};
+ghost use Rattle.words.specs.Parts.{part, put};
+ghost use Rattle.blocks.specs.Arena.{block, arenaOf};
+ghost use Rattle.model.specs.Doc.{limitsOk, liveSlot};
 ghost use Rattle.model.specs.Rules.{blockIn};
-ghost use Rattle.model.specs.RulesTest.{blocksHold};
-ghost use Rattle.memory.specs.Layout.{limitsOf, whichOf, memoryOk, buffersOk};
-ghost use Rattle.memory.specs.Decode.{blockOf, slotsMade, arenaUsed, arenaIn};
-ghost use Rattle.entries.specs.Nodes.{decodeNodes, wordsHold};
+ghost use Rattle.memory.specs.Layout.{limitsOf, whichOf, buffersOk};
+ghost use Rattle.memory.specs.Decode.{arenaUsed, arenaIn};
+ghost use Rattle.entries.specs.Nodes.{decodeNodes};
 ghost use Rattle.structure.specs.Scratch.{marksAt};
-ghost use Rattle.structure.specs.Tests.{claimsMet};
+ghost use Rattle.structure.specs.Turns.{Claim};
 use entries::nodes::block_of;
-use entries::nodes::is_live;
 use memory::layout::Arena;
 use memory::layout::Document;
 use memory::layout::Limits;
 use memory::layout::arena_at;
 use memory::layout::arena_limit;
 use memory::read::arena_used;
-use memory::read::made;
-use slots::Range;
-
-// The block of a slot: a live node's; a free slot has none.
-fn slot_block(d: Document, mem: &[u64], arena: Arena, s: usize) -> Range
-    requires { ⌜ (memoryOk d (length (now mem)) ≡ true) × (s < slotsMade d) × (wordsHold d (now mem) ≡ true) ⌝ }
-    ensures { λ r. ⌜ blockOf r ≡ blockIn (decodeNodes d (now (mem .entry))) (whichOf arena) s ⌝ }
-{
-    if is_live(d, mem, s) {
-        block_of(d, mem, arena, s)
-    } else {
-        Range { start: 0, len: 0 }
-    }
-}
-
-// A slot's block claims its entries, with its capacity. Marks has a word for each entry in use.
-fn claim_slot(d: Document, mem: &[u64], arena: Arena, s: usize, marks: &mut [u64]) -> bool
-    requires { ⌜ (memoryOk d (length (now mem)) ≡ true) × (s < slotsMade d) × (length (now marks) ≡ arenaUsed d (whichOf arena)) × (wordsHold d (now mem) ≡ true) ⌝ }
-    ensures { λ r. ⌜ r ≡ blockClaimable (arenaIn d (whichOf arena) (now (mem .entry))) (now (marks .entry)) (blockIn (decodeNodes d (now (mem .entry))) (whichOf arena) s) ⌝ }
-    ensures { λ _. ⌜ now (marks .exit) ≡ blockClaimed (arenaIn d (whichOf arena) (now (mem .entry))) (now (marks .entry)) (blockIn (decodeNodes d (now (mem .entry))) (whichOf arena) s) ⌝ }
-{
-    let range = slot_block(d, mem, arena, s);
-    let first = range.start;
-    let len = range.len;
-    let start = arena_at(d.limits, arena);
-    let limit = arena_limit(d.limits, arena);
-    let end = start + (limit + limit);
-    blocks::marks::claim_block(&mem[start..end], limit, marks, first as usize, len as usize)
-}
-
-// Whether the claims of all slots are met, one after another.
-fn claim_slots(d: Document, mem: &[u64], arena: Arena, marks: &mut [u64]) -> bool
-    requires { ⌜ (memoryOk d (length (now mem)) ≡ true) × (length (now marks) ≡ arenaUsed d (whichOf arena)) × (wordsHold d (now mem) ≡ true) ⌝ }
-    ensures { λ r. ⌜ r ≡ allClaimable (arenaIn d (whichOf arena) (now (mem .entry))) (blockIn (decodeNodes d (now (mem .entry))) (whichOf arena)) (slotsMade d) ⌝ }
-{
-    words::clear(marks);
-    let count = made(d);
-    let mut s = 0;
-    while s < count {
-        if !claim_slot(d, mem, arena, s, marks) {
-            return false;
-        }
-        s += 1;
-    }
-    true
-}
 
 // Where the marks of an arena lie in scratch: behind four words a node, one arena after another.
 fn marks_at(l: Limits, arena: Arena) -> usize
@@ -80,27 +33,75 @@ fn marks_at(l: Limits, arena: Arena) -> usize
     }
 }
 
-// Whether the blocks of one arena lie as rule 5 says.
-fn check_arena(d: Document, mem: &[u64], arena: Arena, scratch: &mut [u64]) -> bool
-    requires { ⌜ (buffersOk d (length (now mem)) (length (now scratch)) ≡ true) × (wordsHold d (now mem) ≡ true) ⌝ }
-    ensures { λ r. ⌜ r ≡ claimsMet (decodeNodes d (now (mem .entry))) (whichOf arena) ⌝ }
+// Makes the marks of an arena's entries in use 0.
+pub fn clear_arena(d: Document, arena: Arena, scratch: &mut [u64])
+    requires { ⌜ (limitsOk (limitsOf (d .limits)) ≡ true) × (marksAt (limitsOf (d .limits)) (whichOf arena) + arenaUsed d (whichOf arena) ≤ length (now scratch)) ⌝ }
+    ensures { λ _. ⌜ now (scratch .exit) ≡ put (marksAt (limitsOf (d .limits)) (whichOf arena)) (replicate (arenaUsed d (whichOf arena)) 0) (now (scratch .entry)) ⌝ }
 {
-    let start = marks_at(d.limits, arena);
+    let at = marks_at(d.limits, arena);
     let used = arena_used(d, arena);
-    let end = start + used;
-    claim_slots(d, mem, arena, &mut scratch[start..end])
+    words::fill(scratch, at, used, 0);
 }
 
-// Whether rule 5 holds, where rule 1 does of the words.
-pub fn check_blocks(d: Document, mem: &[u64], scratch: &mut [u64]) -> bool
-    requires { ⌜ (buffersOk d (length (now mem)) (length (now scratch)) ≡ true) × (wordsHold d (now mem) ≡ true) ⌝ }
-    ensures { λ r. ⌜ r ≡ blocksHold (decodeNodes d (now (mem .entry))) ⌝ }
+// A block claims its entries with their capacity: the arena's words lie in mem from start on, the marks of its used entries in scratch from at on.
+fn claim_entries(
+    mem: &[u64],
+    start: usize,
+    limit: usize,
+    scratch: &mut [u64],
+    at: usize,
+    used: usize,
+    first: usize,
+    len: usize,
+) -> bool
+    requires { ⌜ (start + (limit + limit) ≤ length (now mem)) × (at + used ≤ length (now scratch)) × (used ≤ limit) ⌝ }
+    ensures { λ r. ⌜ Claim (arenaOf limit used (part start (limit + limit) (now (mem .entry)))) (block first len) at (now (scratch .entry)) (now (scratch .exit)) r ⌝ }
 {
-    if !check_arena(d, mem, Arena::Children, scratch) {
-        return false;
+    let end = start + (limit + limit);
+    let last = at + used;
+    blocks::marks::claim_block(&mem[start..end], limit, &mut scratch[at..last], first, len)
+}
+
+// The same for a block that may be empty, as most are: it claims nothing, so that no more is read of it.
+fn claim_block(
+    mem: &[u64],
+    start: usize,
+    limit: usize,
+    scratch: &mut [u64],
+    at: usize,
+    used: usize,
+    first: usize,
+    len: usize,
+) -> bool
+    requires { ⌜ (start + (limit + limit) ≤ length (now mem)) × (at + used ≤ length (now scratch)) × (used ≤ limit) ⌝ }
+    ensures { λ r. ⌜ Claim (arenaOf limit used (part start (limit + limit) (now (mem .entry)))) (block first len) at (now (scratch .entry)) (now (scratch .exit)) r ⌝ }
+{
+    if len == 0 {
+        return first <= used;
     }
-    if !check_arena(d, mem, Arena::Attributes, scratch) {
-        return false;
-    }
-    check_arena(d, mem, Arena::Namespaces, scratch)
+    claim_entries(mem, start, limit, scratch, at, used, first, len)
+}
+
+// The block of a live slot in an arena claims its entries.
+pub fn claim(d: Document, mem: &[u64], arena: Arena, s: usize, scratch: &mut [u64]) -> bool
+    requires { ⌜ (buffersOk d (length (now mem)) (length (now scratch)) ≡ true) × (liveSlot (decodeNodes d (now mem)) s ≡ true) ⌝ }
+    ensures { λ r. ⌜ Claim (arenaIn d (whichOf arena) (now (mem .entry))) (blockIn (decodeNodes d (now (mem .entry))) (whichOf arena) s) (marksAt (limitsOf (d .limits)) (whichOf arena)) (now (scratch .entry)) (now (scratch .exit)) r ⌝ }
+{
+    let range = block_of(d, mem, arena, s);
+    let first = range.start;
+    let len = range.len;
+    let start = arena_at(d.limits, arena);
+    let limit = arena_limit(d.limits, arena);
+    let at = marks_at(d.limits, arena);
+    let used = arena_used(d, arena);
+    claim_block(
+        mem,
+        start,
+        limit,
+        scratch,
+        at,
+        used,
+        first as usize,
+        len as usize,
+    )
 }

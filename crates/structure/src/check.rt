@@ -7,11 +7,10 @@ ghost use Rattle.model.specs.RulesTest.{countsAndFieldsHold, freeListHolds, par
 ghost use Rattle.memory.specs.Layout.{limitsOf, memoryOk, buffersOk};
 ghost use Rattle.memory.specs.Decode.{countsWithin, slotsMade, decode};
 ghost use Rattle.entries.specs.Nodes.{decodeNodes, wordsHold};
-ghost use Rattle.structure.specs.Tests.{nodeRulesHold};
-use crate::arenas::check_blocks;
+ghost use Rattle.structure.specs.Tests.{fieldsFit, eachHolds};
+use crate::each::check_each;
 use crate::fields::check_fields;
 use crate::free::check_free_list;
-use crate::parents::check_parents;
 use crate::root::check_root_element;
 use entries::node_lists::check_entries;
 use entries::node_paths::check_paths;
@@ -19,19 +18,16 @@ use entries::node_texts::check_texts;
 use memory::layout::Document;
 use memory::read::made;
 
-// Rules 1, 2 and 3, which read the slots.
+// Rules 1 and 2, which read the slots and the free list; but for other Roots, which the pass over the slots tests.
 fn check_slots(d: Document, mem: &[u64], scratch: &mut [u64]) -> bool
     requires { ⌜ buffersOk d (length (now mem)) (length (now scratch)) ≡ true ⌝ }
-    ensures { λ r. ⌜ r ≡ (countsAndFieldsHold (decodeNodes d (now (mem .entry))) && freeListHolds (decodeNodes d (now (mem .entry))) && parentsHold (decodeNodes d (now (mem .entry)))) ⌝ }
+    ensures { λ r. ⌜ r ≡ (fieldsFit d (now (mem .entry)) && freeListHolds (decodeNodes d (now (mem .entry)))) ⌝ }
 {
     if !check_fields(d, mem) {
         return false;
     }
     let count = made(d);
-    if !check_free_list(d, mem, &mut scratch[0..count]) {
-        return false;
-    }
-    check_parents(d, mem)
+    check_free_list(d, mem, &mut scratch[0..count])
 }
 
 // Rule 4, where rules 3 and 5 hold, and rule 1 of the words. Marks has a word for each slot made.
@@ -69,20 +65,6 @@ fn check_links(d: Document, mem: &[u64], scratch: &mut [u64]) -> bool
     check_ends(d, mem, &mut scratch[0..count])
 }
 
-// Rules 1 to 7.
-fn check_nodes(d: Document, mem: &[u64], scratch: &mut [u64]) -> bool
-    requires { ⌜ buffersOk d (length (now mem)) (length (now scratch)) ≡ true ⌝ }
-    ensures { λ r. ⌜ r ≡ nodeRulesHold (decodeNodes d (now (mem .entry))) ⌝ }
-{
-    if !check_slots(d, mem, scratch) {
-        return false;
-    }
-    if !check_blocks(d, mem, scratch) {
-        return false;
-    }
-    check_links(d, mem, scratch)
-}
-
 // Rule 8, where rule 1 holds. Marks has a word for each text slot that the limit allows.
 fn check_pool(d: Document, mem: &[u64], marks: &mut [u64]) -> bool
     requires { ⌜ (memoryOk d (length (now mem)) ≡ true) × (countsWithin (limitsOf (d .limits)) (d .counts) ≡ true) × (wordsHold d (now mem) ≡ true) ⌝ }
@@ -93,17 +75,31 @@ fn check_pool(d: Document, mem: &[u64], marks: &mut [u64]) -> bool
     check_texts(d, mem, marks)
 }
 
-// All eight rules.
-fn check_rules(d: Document, mem: &[u64], scratch: &mut [u64]) -> bool
-    requires { ⌜ buffersOk d (length (now mem)) (length (now scratch)) ≡ true ⌝ }
-    ensures { λ r. ⌜ r ≡ rulesHold (decode d (now (mem .entry))) ⌝ }
+// What is left of rule 1, and rules 3, 5 and 8.
+fn check_passes(d: Document, mem: &[u64], scratch: &mut [u64]) -> bool
+    requires { ⌜ (buffersOk d (length (now mem)) (length (now scratch)) ≡ true) × (fieldsFit d (now mem) ≡ true) ⌝ }
+    ensures { λ r. ⌜ r ≡ eachHolds d (now (mem .entry)) ⌝ }
 {
-    if !check_nodes(d, mem, scratch) {
+    if !check_each(d, mem, scratch) {
         return false;
     }
     let l = d.limits;
     let end = l.texts;
     check_pool(d, mem, &mut scratch[0..end])
+}
+
+// All eight rules.
+fn check_rules(d: Document, mem: &[u64], scratch: &mut [u64]) -> bool
+    requires { ⌜ buffersOk d (length (now mem)) (length (now scratch)) ≡ true ⌝ }
+    ensures { λ r. ⌜ r ≡ rulesHold (decode d (now (mem .entry))) ⌝ }
+{
+    if !check_slots(d, mem, scratch) {
+        return false;
+    }
+    if !check_passes(d, mem, scratch) {
+        return false;
+    }
+    check_links(d, mem, scratch)
 }
 
 // Whether the structure rules hold: Damaged is answered exactly where they do not. Scratch may hold anything, and is all zero after.

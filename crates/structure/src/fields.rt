@@ -1,17 +1,14 @@
 // Rule 1: "Counts are within limits, words within their fields. Slot 0 is the only live Root: generation 0, no parent."
 ghost use mathlib.Core.Path.{_≡_};
 ghost use mathlib.Core.Bool.{true, _&&_};
-ghost use Prim.Native.Nat.{_<_};
 ghost use lib.ListN.{length};
 ghost use Rattle.slots.specs.WordsRule.{wordsRule};
 ghost use Rattle.model.specs.Kinds.{isRoot};
 ghost use Rattle.model.specs.Doc.{liveSlot, kindIn, parentIn, isNone};
-ghost use Rattle.model.specs.RulesTest.{countsAndFieldsHold};
 ghost use Rattle.memory.specs.Layout.{limitsOf, whichOf, memoryOk};
 ghost use Rattle.memory.specs.Decode.{countsWithin, slotsPart, slotsMade};
 ghost use Rattle.entries.specs.Nodes.{decodeNodes, wordsHold};
-ghost use Rattle.structure.specs.Tests.{capacitiesFit, arenasFit, rootStands, rootTest, onlyRoot};
-use entries::nodes::is_live;
+ghost use Rattle.structure.specs.Tests.{capacitiesFit, arenasFit, rootStands, fieldsFit};
 use entries::nodes::kind_of;
 use entries::nodes::parent_of;
 use memory::layout::Arena;
@@ -113,45 +110,14 @@ fn root_stands(d: Document, mem: &[u64]) -> bool
     is_top(d, mem)
 }
 
-// A live Root stands in slot 0.
-fn slot_root(d: Document, mem: &[u64], s: usize) -> bool
-    requires { ⌜ (memoryOk d (length (now mem)) ≡ true) × (s < slotsMade d) × (wordsHold d (now mem) ≡ true) ⌝ }
-    ensures { λ r. ⌜ r ≡ rootTest (decodeNodes d (now (mem .entry))) s ⌝ }
-{
-    if s == 0 {
-        return true;
-    }
-    if is_live(d, mem, s) {
-        kind_of(d, mem, s) != 0
-    } else {
-        true
-    }
-}
-
-fn only_root(d: Document, mem: &[u64]) -> bool
-    requires { ⌜ (memoryOk d (length (now mem)) ≡ true) × (wordsHold d (now mem) ≡ true) ⌝ }
-    ensures { λ r. ⌜ r ≡ onlyRoot (decodeNodes d (now (mem .entry))) ⌝ }
-{
-    let count = made(d);
-    let mut s = 0;
-    while s < count {
-        if !slot_root(d, mem, s) {
-            return false;
-        }
-        s += 1;
-    }
-    true
-}
-
-// Whether rule 1 holds, but for the numbers of texts and names.
+// Whether rule 1 holds, but for the numbers of texts and names, and for other Roots: the pass over the slots tests those.
 pub fn check_fields(d: Document, mem: &[u64]) -> bool
     requires { ⌜ memoryOk d (length (now mem)) ≡ true ⌝ }
-    ensures { λ r. ⌜ r ≡ countsAndFieldsHold (decodeNodes d (now (mem .entry))) ⌝ }
+    ensures { λ r. ⌜ r ≡ fieldsFit d (now (mem .entry)) ⌝ }
 {
-    if !slots_fit(d, mem) {
+    let counts = counts_within(d.limits, d.counts);
+    if !both(counts, slots_fit(d, mem)) {
         return false;
     }
-    let counts = both(counts_within(d.limits, d.counts), arenas_fit(d, mem));
-    let root = both(root_stands(d, mem), only_root(d, mem));
-    both(counts, root)
+    both(arenas_fit(d, mem), root_stands(d, mem))
 }

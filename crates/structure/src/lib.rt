@@ -1,6 +1,7 @@
 // The structure check: Damaged exactly when a structure rule is broken. The memory is only read.
 pub mod arenas;
 pub mod check;
+pub mod each;
 pub mod fields;
 pub mod free;
 pub mod node;

@@ -1,22 +1,18 @@
 // Rule 3: "Attributes and namespaces have a live element as parent. Others have a live Root or element, or none (detached)."
 ghost use mathlib.Core.Path.{_≡_};
 ghost use mathlib.Core.Bool.{true, _&&_};
-ghost use Prim.Native.Nat.{_<_};
 ghost use lib.ListN.{length};
 ghost use Rattle.model.specs.Doc.{liveSlot, resolves, kindAt, parentIn};
-ghost use Rattle.model.specs.RulesTest.{parentHolds, parentsHold};
+ghost use Rattle.model.specs.RulesTest.{parentHolds};
 ghost use Rattle.memory.specs.Layout.{memoryOk};
-ghost use Rattle.memory.specs.Decode.{slotsMade};
 ghost use Rattle.entries.specs.Nodes.{decodeNodes, wordsHold, kindNumber};
-ghost use Rattle.structure.specs.Tests.{ownsNumber, parentTest};
+ghost use Rattle.structure.specs.Tests.{ownsNumber};
 use crate::node::is_child;
 use crate::node::may_own;
 use entries::nodes::is_current;
-use entries::nodes::is_live;
 use entries::nodes::kind_of;
 use entries::nodes::parent_of;
 use memory::layout::Document;
-use memory::read::made;
 use slots::Parent;
 
 // Whether a handle resolves, to a node that may be the parent of one of this kind.
@@ -33,7 +29,7 @@ fn owner_fits(d: Document, mem: &[u64], handle: u64, kind: u64) -> bool
 }
 
 // Whether a live slot's parent, or that it has none, fits its kind.
-fn parent_fits(d: Document, mem: &[u64], s: usize) -> bool
+pub fn parent_fits(d: Document, mem: &[u64], s: usize) -> bool
     requires { ⌜ (memoryOk d (length (now mem)) ≡ true) × (wordsHold d (now mem) ≡ true) × (liveSlot (decodeNodes d (now mem)) s ≡ true) ⌝ }
     ensures { λ r. ⌜ r ≡ parentHolds (decodeNodes d (now (mem .entry))) s (parentIn (decodeNodes d (now (mem .entry))) s) ⌝ }
 {
@@ -43,31 +39,4 @@ fn parent_fits(d: Document, mem: &[u64], s: usize) -> bool
         Parent::None => is_child(kind),
         Parent::Of(id) => owner_fits(d, mem, slots::handle::word_of(id), kind),
     }
-}
-
-fn slot_parent(d: Document, mem: &[u64], s: usize) -> bool
-    requires { ⌜ (memoryOk d (length (now mem)) ≡ true) × (s < slotsMade d) × (wordsHold d (now mem) ≡ true) ⌝ }
-    ensures { λ r. ⌜ r ≡ parentTest (decodeNodes d (now (mem .entry))) s ⌝ }
-{
-    if is_live(d, mem, s) {
-        parent_fits(d, mem, s)
-    } else {
-        true
-    }
-}
-
-// Whether rule 3 holds, where rule 1 does of the words.
-pub fn check_parents(d: Document, mem: &[u64]) -> bool
-    requires { ⌜ (memoryOk d (length (now mem)) ≡ true) × (wordsHold d (now mem) ≡ true) ⌝ }
-    ensures { λ r. ⌜ r ≡ parentsHold (decodeNodes d (now (mem .entry))) ⌝ }
-{
-    let count = made(d);
-    let mut s = 0;
-    while s < count {
-        if !slot_parent(d, mem, s) {
-            return false;
-        }
-        s += 1;
-    }
-    true
 }

@@ -1,13 +1,11 @@
 -- `structure::check::check_slots` meets its contract.
 -- Assumes nothing.
-use mathlib.Core.Path.{sym, _∙_}
 use mathlib.Core.Bool.{true}
 use native.Mathlib.Omega.{arith}
 use lib.ListN.{length}
 use Rattle.structure.proofs.Claimed.{buffers-memory}
-use Rattle.structure.proofs.CountsAndFields.{words-there}
 use Rattle.structure.proofs.Together.{slots-inside}
-use Rattle.structure.proofs.Lists.{not-false, ended-first, ended-second, decided-third}
+use Rattle.structure.proofs.Lists.{ended, decided}
 use borrow.Author.Needs.{needs}
 use Rattle.structure.proofs.check.check_slots.Statement.{statement}
 use Rattle.structure.proofs.check.check_slots.Tie as tie
@@ -19,7 +17,7 @@ check-fields-requires c κs =
     ok
 
 returns : tie.Need-returns
-returns c = ended-first _ _ _ _ (c .before .check-fields .ensures) (c .if1 .taken)
+returns c = ended _ _ _ true (c .before .check-fields .ensures) (c .if1 .taken)
 
 made-requires : tie.Need-made-requires
 made-requires c κs = search needs
@@ -45,19 +43,7 @@ same-length : tie.Need-same-length
 same-length c = search needs
 
 returns-2 : tie.Need-returns-2
-returns-2 c = ended-second _ _ _ _ _ true (c .before .before .before .before .before .before .before .check-fields .ensures) (c .before .before .before .before .before .before .if1 .left) (c .before .before .before .check-free-list .ensures) (c .if2 .taken)
-
-check-parents-requires : tie.Need-check-parents-requires
-check-parents-requires c κs =
-    let s = c .before .before .before .before .before .before .before .before .before .before in
-    let ok = buffers-memory (s .args .d) (length (s .args .mem .now)) (length (s .args .scratch .now)) (s .pre) in
-    (ok, words-there (s .args .d) (s .args .mem .now) (sym (c .before .before .before .before .before .before .before .check-fields .ensures) ∙ not-false _ (c .before .before .before .before .before .before .if1 .left)))
-
-same-length-2 : tie.Need-same-length-2
-same-length-2 c = search needs
-
-returns-3 : tie.Need-returns-3
-returns-3 c = decided-third _ _ _ _ _ _ (c .before .before .before .before .before .before .before .before .check-fields .ensures) (c .before .before .before .before .before .before .before .if1 .left) (c .before .before .before .before .check-free-list .ensures) (c .before .if2 .left) (c .check-parents .ensures)
+returns-2 c = decided _ _ _ _ (c .before .before .before .before .before .before .check-fields .ensures) (c .before .before .before .before .before .if1 .left) (c .before .before .check-free-list .ensures)
 
 pub check-slots-spec : {M : Type 1} → statement M
 check-slots-spec =
@@ -71,7 +57,4 @@ check-slots-spec =
     part-check-free-list-end
     check-free-list-requires
     same-length
-    returns-2
-    check-parents-requires
-    same-length-2
-    returns-3)
+    returns-2)
