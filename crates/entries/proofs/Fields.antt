@@ -4,7 +4,7 @@ use mathlib.Core.Path.{_≡_, refl, sym, ap, _∙_, subst}
 use mathlib.Core.Bool.{Bool, true, false, not, _&&_, false≢true}
 use mathlib.Core.Option.{Option, none, some}
 use mathlib.Core.List.{List, [], _∷_, _++_}
-use Prim.Native.Nat.{ℕ, _+_, _≤_, _<_}
+use Prim.Native.Nat.{ℕ, _≤_, _<_}
 use native.Mathlib.Omega.{arith}
 use lib.ListN.{length, getD, set}
 use lib.Dec.{ltb}
@@ -143,23 +143,14 @@ fields-of k = go k
     go (namespace p u) = refl
     go (instruction t d) = refl
 
-module _ (D : Doc) (s texts names : ℕ) (marks : List ℕ) (t : Bool) (f : t ≡ liveSlot D s) where
-  pub node-none : not t ≡ true → Pass (length marks) (fieldsHold texts names D s) (heldIn D s) marks marks true
+module _ (D : Doc) (s texts names : ℕ) (marks : List ℕ) (live : liveSlot D s ≡ true) (u : Bool) (e : u ≡ namesInside names (kindIn D s)) where
+  pub node-refused : not u ≡ true → Pass (length marks) (fieldsHold texts names D s) (heldIn D s) marks marks false
   unfolding fieldsHold
-  node-none n = rw (sym f ∙ refused t n) (record { answer = refl; counts = λ _. adds-none (length marks) marks })
+  node-refused q = rw live (record { answer = rw (← e, refused u q); counts = λ z. absurd (false≢true z) })
 
-  module _ (y : not t ≡ false) where
-    pub node-live : liveSlot D s ≡ true
-    node-live = sym f ∙ passed t y
-
-    module _ (u : Bool) (e : u ≡ namesInside names (kindIn D s)) where
-      pub node-refused : not u ≡ true → Pass (length marks) (fieldsHold texts names D s) (heldIn D s) marks marks false
-      unfolding fieldsHold
-      node-refused q = rw node-live (record { answer = rw (← e, refused u q); counts = λ z. absurd (false≢true z) })
-
-      pub node-counted : not u ≡ false → (first second : Chars) → slotOf first ≡ firstSlot (kindIn D s) → slotOf second ≡ secondSlot (kindIn D s) → (after : List ℕ) (r : Bool)
-          → Pass (length marks) (slotsInside texts (slotsHeld (slotOf first ∷ slotOf second ∷ []))) (slotsHeld (slotOf first ∷ slotOf second ∷ [])) marks after r
-          → Pass (length marks) (fieldsHold texts names D s) (heldIn D s) marks after r
-      unfolding fieldsHold
-      node-counted q first second ef es after r p =
-          rw (node-live, fields-of (kindIn D s), ← e, passed u q, ← ef, ← es) p
+  pub node-counted : not u ≡ false → (first second : Chars) → slotOf first ≡ firstSlot (kindIn D s) → slotOf second ≡ secondSlot (kindIn D s) → (after : List ℕ) (r : Bool)
+      → Pass (length marks) (slotsInside texts (slotsHeld (slotOf first ∷ slotOf second ∷ []))) (slotsHeld (slotOf first ∷ slotOf second ∷ [])) marks after r
+      → Pass (length marks) (fieldsHold texts names D s) (heldIn D s) marks after r
+  unfolding fieldsHold
+  node-counted q first second ef es after r p =
+      rw (live, fields-of (kindIn D s), ← e, passed u q, ← ef, ← es) p

@@ -6,7 +6,7 @@ use mathlib.Core.List.{List, [], reverse}
 use Prim.Native.Nat.{ℕ, _+_, _-_, _*_, _≤_, _<_, min}
 use native.Mathlib.Decide.{ℕ-discrete, decLt}
 use native.Mathlib.Omega.{arith}
-use lib.ListN.{length, getD, take, drop, replicate, List·getD-eq-default}
+use lib.ListN.{length, getD, take, drop, List·getD-eq-default}
 use lib.Dec.{eqb, ltb}
 use borrow.Author.Tests.{eq-eqb, ne-eqb, ltb-true, le-ltb, le-leb}
 use Rattle.words.specs.Parts.{part}
@@ -34,10 +34,10 @@ use Rattle.memory.proofs.Counted.{CountsFit, counts-fit}
 use Rattle.memory.proofs.Columns as columns
 use Rattle.memory.proofs.Shown.{names-shown}
 use Rattle.entries.specs.Nodes.{noTexts, decodeNodes}
-use Rattle.entries.specs.Marks.{Counted, Pass, gathered}
-use Rattle.entries.specs.Fields.{slotsInside, namesInside, fieldsHold, markedOne, slotsOnce}
+use Rattle.entries.specs.Marks.{Counted, gathered}
+use Rattle.entries.specs.Fields.{slotsInside, namesInside, fieldsHold, markedOne, slotsOnce, poolHolds}
 use Rattle.entries.proofs.Lists.{and-comm, allBelow-and, all-same, all-gathered, all-reverse}
-use Rattle.entries.proofs.Marks.{counted-none, passed, refused}
+use Rattle.entries.proofs.Marks.{passed, refused}
 
 -- ---- the two parts of the buffer
 
@@ -100,43 +100,33 @@ both-told h f = go (ℕ-discrete (h + f) 1)
 
 -- ---- counting the free list behind the fields
 
-module _ (D : Doc) (marks m : List ℕ) (t : Bool) (texts names n : ℕ)
-    (p : Pass (length marks) (allBelow (fieldsHold texts names D) n) (gathered (heldIn D) n) marks m t) where
-  pub slots-refused : not t ≡ true → (free : List ℕ) → false ≡ (allBelow (fieldsHold texts names D) n && slotsOnce texts D n free)
-  slots-refused e free = rw (← p .answer, refused t e)
+module _ (D : Doc) (texts n : ℕ) (m : List ℕ) (size : length m ≡ texts) (counted : Counted texts (gathered (heldIn D) n) m) where
+  small-mark : (s : ℕ) → getD m s 0 ≤ 2
+  small-mark s = go (decLt s texts)
+    where
+      go : Dec (s < texts) → getD m s 0 ≤ 2
+      go (yes b) = omega (arith, counted .mark s b)
+      go (no b) = omega (arith, List·getD-eq-default m 0 {n = s} (omega arith))
 
-  module _ (e : not t ≡ false) (z : marks ≡ replicate (length marks) 0) (l : length m ≡ length marks) where
-    counted : Counted (length marks) (gathered (heldIn D) n) m
-    counted = p .counts (passed t e) .adds [] (counted-none (length marks) marks (omega arith) z)
+  markable : (words free : List ℕ) → all (freeOk texts words) free ≡ true → length free ≤ 131072 → Markable free m
+  markable words free h k = record {
+    inside = λ i q.
+        let y = all-count (freeOk texts words) free (getD free i 0) h (getD-count free i q) in
+        let w = ltb-true (getD free i 0) texts (and-left (ltb (getD free i 0) texts) (eqb (getD words (getD free i 0) 0) (startOf words (getD free i 0))) y) in
+        omega arith;
+    small = λ s. omega (arith, small-mark s);
+  }
 
-    small-mark : (s : ℕ) → getD m s 0 ≤ 2
-    small-mark s = go (decLt s (length marks))
-      where
-        go : Dec (s < length marks) → getD m s 0 ≤ 2
-        go (yes b) = omega (arith, counted .mark s b)
-        go (no b) = omega (arith, List·getD-eq-default m 0 {n = s} (omega arith))
-
-    pub markable : (made : ℕ) (words free : List ℕ) → all (freeOk made words) free ≡ true → made ≤ length marks → length free ≤ 131072 → Markable free m
-    markable made words free h b k = record {
-      inside = λ i q.
-          let y = all-count (freeOk made words) free (getD free i 0) h (getD-count free i q) in
-          let w = ltb-true (getD free i 0) made (and-left (ltb (getD free i 0) made) (eqb (getD words (getD free i 0) 0) (startOf words (getD free i 0))) y) in
-          omega arith;
-      small = λ s. omega (arith, small-mark s);
-    }
-
-    pub slots-decided : (after free : List ℕ) (r : Bool) → after ≡ marked free m → texts ≤ length marks → r ≡ allBelow (markedOne after) texts
-        → r ≡ (allBelow (fieldsHold texts names D) n && slotsOnce texts D n free)
-    unfolding markedOne slotsOnce
-    slots-decided after free r q b g =
-        g
-        ∙ allBelow-same (λ s. eqb (getD after s 0) 1) (λ s. eqb (countOf (eqb s) (gathered (heldIn D) n) + countOf (eqb s) free) 1) texts
-        (λ s i.
-        ap (λ (a : List ℕ). eqb (getD a s 0) 1) q
-        ∙ ap (λ (k : ℕ). eqb k 1) (marked-at free m s (omega arith))
-        ∙ ap (λ (k : ℕ). eqb (k + countOf (eqb s) free) 1) (counted .mark s (omega arith))
-        ∙ both-told (countOf (eqb s) (gathered (heldIn D) n)) (countOf (eqb s) free))
-        ∙ sym (rw (← p .answer, passed t e))
+  pub slots-decided : (after free : List ℕ) (r : Bool) → after ≡ marked free m → r ≡ allBelow (markedOne after) texts → r ≡ slotsOnce texts D n free
+  unfolding markedOne slotsOnce
+  slots-decided after free r q g =
+      g
+      ∙ allBelow-same (λ s. eqb (getD after s 0) 1) (λ s. eqb (countOf (eqb s) (gathered (heldIn D) n) + countOf (eqb s) free) 1) texts
+      (λ s i.
+      ap (λ (a : List ℕ). eqb (getD a s 0) 1) q
+      ∙ ap (λ (k : ℕ). eqb k 1) (marked-at free m s (omega arith))
+      ∙ ap (λ (k : ℕ). eqb (k + countOf (eqb s) free) 1) (counted .mark s i)
+      ∙ both-told (countOf (eqb s) (gathered (heldIn D) n)) (countOf (eqb s) free))
 
 -- ---- what the layers say, in the document's words
 
@@ -282,7 +272,7 @@ module _ (d : Document) (mem : List ℕ) (ok : memoryOk d (length mem) ≡ true)
   unfolding textsHold
   free-differs e n = fourth-false (lengthsAdd d mem) _ _ _ _ (free-is e ∙ n)
 
-  pub texts-refused : (t : Bool) → t ≡ poolOk (textLimits d) (textCounts d) (textsPart d mem) → not t ≡ true → false ≡ textsHold (decode d mem)
+  texts-refused : (t : Bool) → t ≡ poolOk (textLimits d) (textCounts d) (textsPart d mem) → not t ≡ true → false ≡ textsHold (decode d mem)
   texts-refused t e h = go (textsAdd d mem) refl
     where
       no-pool : (textsAdd d mem && all (freeOk (d .counts .texts) (textsPart d mem)) stack) ≡ false
@@ -292,7 +282,7 @@ module _ (d : Document) (mem : List ℕ) (ok : memoryOk d (length mem) ≡ true)
       go true q = free-differs q (sym (ap (λ (a : Bool). a && all (freeOk (d .counts .texts) (textsPart d mem)) stack) q) ∙ no-pool)
       go false q = ends-differ q
 
-  pub names-refused : (t : Bool) → t ≡ tableOk (nameLimits d) (nameCounts d) (namesPart d mem) → not t ≡ true → false ≡ textsHold (decode d mem)
+  names-refused : (t : Bool) → t ≡ tableOk (nameLimits d) (nameCounts d) (namesPart d mem) → not t ≡ true → false ≡ textsHold (decode d mem)
   unfolding textsHold
   names-refused t e h =
       first-false (lengthsAdd d mem) _ _ _ _
@@ -308,7 +298,7 @@ module _ (d : Document) (mem : List ℕ) (ok : memoryOk d (length mem) ≡ true)
     names-add : namesAdd d mem ≡ true
     names-add = sym table-is ∙ sym eu ∙ passed u hu
 
-    pub texts-decided : (r : Bool)
+    texts-decided : (r : Bool)
         → r ≡ (allBelow (fieldsHold (d .counts .texts) (d .counts .names) (decodeNodes d mem)) (slotsMade d) && slotsOnce (d .counts .texts) (decodeNodes d mem) (slotsMade d) (part (d .limits .texts) (d .counts .freetexts) (textsPart d mem)))
         → r ≡ textsHold (decode d mem)
     unfolding textsHold
@@ -320,22 +310,50 @@ module _ (d : Document) (mem : List ℕ) (ok : memoryOk d (length mem) ≡ true)
         ∙ and-right (textsAdd d mem) (all (freeOk (d .counts .texts) (textsPart d mem)) stack) pool-holds)
         names-is
 
-  -- ---- what counting the free list asks
+  abbrev fields : Bool
+  fields = allBelow (fieldsHold (d .counts .texts) (d .counts .names) (decodeNodes d mem)) (slotsMade d)
 
-  pub texts-inside : d .counts .texts ≤ d .limits .texts
-  texts-inside = fit .texts
+  abbrev once : Bool
+  once = slotsOnce (d .counts .texts) (decodeNodes d mem) (slotsMade d) stack
+
+  -- the fields, and what is asked besides them, are the rule
+  pub texts-are : (allBelow (fieldsHold (d .counts .texts) (d .counts .names) (decodeNodes d mem)) (slotsMade d) && poolHolds d mem) ≡ textsHold (decode d mem)
+  unfolding poolHolds
+  texts-are = go (poolOk (textLimits d) (textCounts d) (textsPart d mem)) (tableOk (nameLimits d) (nameCounts d) (namesPart d mem)) refl refl
+    where
+      go : (p t : Bool) → poolOk (textLimits d) (textCounts d) (textsPart d mem) ≡ p → tableOk (nameLimits d) (nameCounts d) (namesPart d mem) ≡ t
+          → (fields && (p && t && once)) ≡ textsHold (decode d mem)
+      go true true ep et = texts-decided true true (sym ep) refl (sym et) refl (fields && once) refl
+      go true false ep et = and-false fields ∙ names-refused false (sym et) refl
+      go false t ep et = and-false fields ∙ texts-refused false (sym ep) refl
+
+  -- ---- the tests in their order
+
+  pub pool-broken : (t : Bool) → t ≡ poolOk (textLimits d) (textCounts d) (textsPart d mem) → not t ≡ true → false ≡ poolHolds d mem
+  unfolding poolHolds
+  pool-broken t e h = sym (rw (sym e ∙ refused t h))
+
+  module _ (t : Bool) (et : t ≡ poolOk (textLimits d) (textCounts d) (textsPart d mem)) (ht : not t ≡ false) (u : Bool) (eu : u ≡ tableOk (nameLimits d) (nameCounts d) (namesPart d mem)) where
+    pub table-broken : not u ≡ true → false ≡ poolHolds d mem
+    unfolding poolHolds
+    table-broken h = sym (rw (sym et ∙ passed t ht, sym eu ∙ refused u h))
+
+    pub pool-decided : not u ≡ false → (r : Bool)
+        → r ≡ slotsOnce (d .counts .texts) (decodeNodes d mem) (slotsMade d) (part (d .limits .texts) (d .counts .freetexts) (textsPart d mem)) → r ≡ poolHolds d mem
+    unfolding poolHolds
+    pool-decided h r e = e ∙ sym (rw (sym et ∙ passed t ht, sym eu ∙ passed u h))
+
+  -- ---- what counting the free list asks
 
   pub free-inside : d .counts .freetexts ≤ d .limits .texts
   free-inside = fit .free-texts
 
-  pub free-markable : poolOk (textLimits d) (textCounts d) (textsPart d mem) ≡ true → (marks m : List ℕ) (t : Bool)
-      → Pass (length marks) (allBelow (fieldsHold (d .counts .texts) (d .counts .names) (decodeNodes d mem)) (slotsMade d)) (gathered (heldIn (decodeNodes d mem)) (slotsMade d)) marks m t
-      → not t ≡ false → marks ≡ replicate (length marks) 0 → length m ≡ length marks → d .limits .texts ≤ length marks
+  pub free-markable : poolOk (textLimits d) (textCounts d) (textsPart d mem) ≡ true → (m : List ℕ) → length m ≡ d .counts .texts
+      → Counted (d .counts .texts) (gathered (heldIn (decodeNodes d mem)) (slotsMade d)) m
       → Markable (part (d .limits .texts) (d .counts .freetexts) (textsPart d mem)) m
-  free-markable h marks m t p e z l b =
-      markable (decodeNodes d mem) marks m t (d .counts .texts) (d .counts .names) (slotsMade d) p e z l (d .counts .texts) (textsPart d mem) stack
+  free-markable h m size counted =
+      markable (decodeNodes d mem) (d .counts .texts) (slotsMade d) m size counted (textsPart d mem) stack
       (and-right (textsAdd d mem) (all (freeOk (d .counts .texts) (textsPart d mem)) stack) (sym pool-is ∙ h))
-      (omega (arith, fit .texts))
       (omega (
         arith,
         length-part (textsPart d mem) (d .limits .texts) (d .counts .freetexts) (omega (arith, length-texts d mem ok, fit .free-texts)),

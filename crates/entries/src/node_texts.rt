@@ -1,25 +1,23 @@
-// Rule 8: the lengths of texts and names add up, as their layers say; each live node's text slots and those of the free text list are counted, and each text
-// slot is to have been counted once.
+// Rule 8: the fields of a live node are tested and its text slots counted, slot by slot; behind them the lengths of texts and names add up, as their layers say, and
+// with those of the free text list each text slot is to have been counted once.
 ghost use mathlib.Core.Path.{_≡_};
-ghost use mathlib.Core.Bool.{true, _&&_};
+ghost use mathlib.Core.Bool.{true};
 ghost use mathlib.Core.List.{[], _∷_};
-ghost use Prim.Native.Nat.{_<_, _≤_};
-ghost use lib.ListN.{length, replicate};
+ghost use Prim.Native.Nat.{_≤_};
+ghost use lib.ListN.{length};
 ghost use Rattle.words.specs.Parts.{part};
 ghost use Rattle.words.specs.Lists.{allBelow};
 ghost use Rattle.texts.specs.Words.{poolOk, Markable, marked};
 ghost use Rattle.names.specs.Words.{tableOk};
 ghost use Rattle.model.specs.Doc.{liveSlot, kindIn};
 ghost use Rattle.model.specs.Rules.{heldIn, slotsHeld};
-ghost use Rattle.model.specs.RulesTest.{textsHold};
 ghost use Rattle.memory.specs.Layout.{limitsOf, memoryOk};
-ghost use Rattle.memory.specs.Decode.{slotOf, slotsMade, countsWithin, textLimits, textCounts, nameLimits, nameCounts, textsPart, namesPart, decode};
-ghost use Rattle.entries.specs.Nodes.{decodeNodes, wordsHold};
-ghost use Rattle.entries.specs.Marks.{Pass, gathered};
-ghost use Rattle.entries.specs.Fields.{slotsInside, namesInside, fieldsHold, markedOne, slotsOnce};
+ghost use Rattle.memory.specs.Decode.{slotOf, slotsMade, countsWithin, textLimits, textCounts, nameLimits, nameCounts, textsPart, namesPart};
+ghost use Rattle.entries.specs.Nodes.{decodeNodes};
+ghost use Rattle.entries.specs.Marks.{Counted, Pass, gathered};
+ghost use Rattle.entries.specs.Fields.{slotsInside, namesInside, fieldsHold, markedOne, slotsOnce, poolHolds};
 use crate::nodes::count;
 use crate::nodes::first_text;
-use crate::nodes::is_live;
 use crate::nodes::kind_of;
 use crate::nodes::name_of;
 use crate::nodes::second_text;
@@ -75,14 +73,11 @@ fn count_texts(first: Chars, second: Chars, texts: usize, marks: &mut [u64]) -> 
     count_text(second, texts, marks)
 }
 
-// The fields of a slot, where it is live.
-fn count_node(d: Document, mem: &[u64], s: usize, marks: &mut [u64]) -> bool
-    requires { ⌜ (memoryOk d (length (now mem)) ≡ true) × (s < slotsMade d) × (d .counts .texts ≤ length (now marks)) × (wordsHold d (now mem) ≡ true) ⌝ }
+// The fields of a live slot.
+pub fn count_node(d: Document, mem: &[u64], s: usize, marks: &mut [u64]) -> bool
+    requires { ⌜ (memoryOk d (length (now mem)) ≡ true) × (liveSlot (decodeNodes d (now mem)) s ≡ true) × (d .counts .texts ≤ length (now marks)) ⌝ }
     ensures { λ r. ⌜ Pass (length (now (marks .entry))) (fieldsHold (d .counts .texts) (d .counts .names) (decodeNodes d (now (mem .entry))) s) (heldIn (decodeNodes d (now (mem .entry))) s) (now (marks .entry)) (now (marks .exit)) r ⌝ }
 {
-    if !is_live(d, mem, s) {
-        return true;
-    }
     if !names_inside(d, mem, s) {
         return false;
     }
@@ -90,22 +85,6 @@ fn count_node(d: Document, mem: &[u64], s: usize, marks: &mut [u64]) -> bool
     let first = first_text(d, mem, s);
     let second = second_text(d, mem, s);
     count_texts(first, second, c.texts, marks)
-}
-
-// The fields of all slots.
-fn count_fields(d: Document, mem: &[u64], marks: &mut [u64]) -> bool
-    requires { ⌜ (memoryOk d (length (now mem)) ≡ true) × (d .counts .texts ≤ length (now marks)) × (wordsHold d (now mem) ≡ true) ⌝ }
-    ensures { λ r. ⌜ Pass (length (now (marks .entry))) (allBelow (fieldsHold (d .counts .texts) (d .counts .names) (decodeNodes d (now (mem .entry)))) (slotsMade d)) (gathered (heldIn (decodeNodes d (now (mem .entry)))) (slotsMade d)) (now (marks .entry)) (now (marks .exit)) r ⌝ }
-{
-    let n = memory::read::made(d);
-    let mut i = 0;
-    while i < n {
-        if !count_node(d, mem, i, marks) {
-            return false;
-        }
-        i += 1;
-    }
-    true
 }
 
 // What the pool says of itself.
@@ -185,26 +164,23 @@ fn all_once(marks: &[u64], texts: usize) -> bool
     true
 }
 
-// The fields and the free list together, where the pool holds.
-fn check_slots(d: Document, mem: &[u64], marks: &mut [u64]) -> bool
-    requires { ⌜ (memoryOk d (length (now mem)) ≡ true) × (countsWithin (limitsOf (d .limits)) (d .counts) ≡ true) × (poolOk (textLimits d) (textCounts d) (textsPart d (now mem)) ≡ true) × (wordsHold d (now mem) ≡ true) ⌝ }
-    requires { ⌜ (d .limits .texts ≤ length (now marks)) × (now marks ≡ replicate (length (now marks)) 0) ⌝ }
-    ensures { λ r. ⌜ r ≡ (allBelow (fieldsHold (d .counts .texts) (d .counts .names) (decodeNodes d (now (mem .entry)))) (slotsMade d) && slotsOnce (d .counts .texts) (decodeNodes d (now (mem .entry))) (slotsMade d) (part (d .limits .texts) (d .counts .freetexts) (textsPart d (now (mem .entry))))) ⌝ }
+// Whether each text slot is held once, where the pool holds and the fields are counted: the free list is counted behind them.
+fn held_once(d: Document, mem: &[u64], marks: &mut [u64]) -> bool
+    requires { ⌜ (memoryOk d (length (now mem)) ≡ true) × (countsWithin (limitsOf (d .limits)) (d .counts) ≡ true) × (poolOk (textLimits d) (textCounts d) (textsPart d (now mem)) ≡ true) ⌝ }
+    requires { ⌜ (length (now marks) ≡ d .counts .texts) × Counted (d .counts .texts) (gathered (heldIn (decodeNodes d (now mem))) (slotsMade d)) (now marks) ⌝ }
+    ensures { λ r. ⌜ r ≡ slotsOnce (d .counts .texts) (decodeNodes d (now (mem .entry))) (slotsMade d) (part (d .limits .texts) (d .counts .freetexts) (textsPart d (now (mem .entry)))) ⌝ }
 {
-    if !count_fields(d, mem, marks) {
-        return false;
-    }
     count_free(d, mem, marks);
     let c = d.counts;
     all_once(marks, c.texts)
 }
 
-// Whether rule 8 holds, where the counts are within the limits and the words within their fields (rule 1). The marks, a word for each text slot that the limit allows, are all zero before, and
-// anything after.
+// Whether what rule 8 asks besides the fields holds, where the counts are within the limits (rule 1). The marks, a word for each text slot made, have the fields counted before,
+// and anything after.
 pub fn check_texts(d: Document, mem: &[u64], marks: &mut [u64]) -> bool
-    requires { ⌜ (memoryOk d (length (now mem)) ≡ true) × (countsWithin (limitsOf (d .limits)) (d .counts) ≡ true) × (wordsHold d (now mem) ≡ true) ⌝ }
-    requires { ⌜ (d .limits .texts ≤ length (now marks)) × (now marks ≡ replicate (length (now marks)) 0) ⌝ }
-    ensures { λ r. ⌜ r ≡ textsHold (decode d (now (mem .entry))) ⌝ }
+    requires { ⌜ (memoryOk d (length (now mem)) ≡ true) × (countsWithin (limitsOf (d .limits)) (d .counts) ≡ true) ⌝ }
+    requires { ⌜ (length (now marks) ≡ d .counts .texts) × Counted (d .counts .texts) (gathered (heldIn (decodeNodes d (now mem))) (slotsMade d)) (now marks) ⌝ }
+    ensures { λ r. ⌜ r ≡ poolHolds d (now (mem .entry)) ⌝ }
 {
     if !texts_hold(d, mem) {
         return false;
@@ -212,5 +188,5 @@ pub fn check_texts(d: Document, mem: &[u64], marks: &mut [u64]) -> bool
     if !names_hold(d, mem) {
         return false;
     }
-    check_slots(d, mem, marks)
+    held_once(d, mem, marks)
 }

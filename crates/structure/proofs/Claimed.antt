@@ -31,7 +31,7 @@ use Rattle.memory.specs.Decode.{blockOf, arenaPart, arenaUsed, arenaIn}
 use Rattle.memory.proofs.Columns.{length-gens, live-past}
 use Rattle.memory.proofs.Shaped.{length-ids, length-caps, shape}
 use Rattle.entries.specs.Nodes.{noTexts, decodeNodes}
-use Rattle.structure.specs.Scratch.{marksAt}
+use Rattle.structure.specs.Scratch.{marksAt, textMarksAt}
 use Rattle.structure.specs.Tests.{claimsMet}
 use Rattle.structure.specs.Turns.{Claim}
 use Rattle.structure.proofs.Lists.{both-ways}
@@ -121,6 +121,20 @@ unfolding marksAt scratchWords
 marks-within l children = omega arith
 marks-within l attributes = omega arith
 marks-within l namespaces = omega arith
+
+pub marks-before-texts : (d : Document) (w : Which) → marksAt (limitsOf (d .limits)) w + arenaUsed d w ≤ textMarksAt (limitsOf (d .limits))
+unfolding marksAt textMarksAt
+marks-before-texts d children = omega arith
+marks-before-texts d attributes = omega arith
+marks-before-texts d namespaces = omega arith
+
+pub text-marks-inside : (d : Document) → d .counts .texts ≤ d .limits .texts → textMarksAt (limitsOf (d .limits)) + d .counts .texts ≤ scratchWords (limitsOf (d .limits))
+unfolding textMarksAt scratchWords
+text-marks-inside d h = omega arith
+
+pub text-marks-at : (l : given.Limits) → 4 * l .nodes + l .children + l .attributes + l .namespaces ≡ textMarksAt (limitsOf l)
+unfolding textMarksAt
+text-marks-at l = refl
 
 pub cleared-at : (at used p u : ℕ) (before after : List ℕ) → at ≡ p → used ≡ u → after ≡ put at (replicate used 0) before → after ≡ put p (replicate u 0) before
 cleared-at at used p u before after e f q = q ∙ ap₂ (λ (i n : ℕ). put i (replicate n 0) before) e f

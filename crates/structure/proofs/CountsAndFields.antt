@@ -36,6 +36,7 @@ use Rattle.memory.specs.declared.layout.Limits as given
 use Rattle.memory.specs.declared.layout.Counts.{Counts}
 use Rattle.memory.specs.Layout.{limitsOf, entriesOf, arenaAt}
 use Rattle.memory.specs.Decode.{handleOf, kindLoaded, countsWithin, slotsPart, slotsMade, arenaPart, arenaUsed, arenaIn}
+use Rattle.memory.proofs.Counted.{counts-fit}
 use Rattle.memory.proofs.Columns.{length-gens, generation-in, kind-column, order-in, generation-past}
 use Rattle.entries.specs.Nodes.{noTexts, decodeNodes, wordsHold, kindNumber}
 use Rattle.entries.proofs.Words.{generation-word, live-word}
@@ -54,6 +55,9 @@ pub counts-hold : (l : given.Limits) (c : Counts) (both₁ both₂ both₃ both�
 unfolding countsWithin
 counts-hold l c b₁ b₂ b₃ b₄ b₅ b₆ b₇ b₈ b₉ e₁ e₂ e₃ e₄ e₅ e₆ e₇ e₈ e₉ =
     e₉ ∙ rw (e₈, e₇, e₆, e₅, e₄, e₃, e₂, e₁)
+
+pub texts-below : (d : Document) → countsWithin (limitsOf (d .limits)) (d .counts) ≡ true → d .counts .texts ≤ d .limits .texts
+texts-below d h = counts-fit (limitsOf (d .limits)) (d .counts) h .texts
 
 -- ---- the capacities of an arena
 
@@ -297,9 +301,9 @@ module _ (d : Document) (mem : List ℕ) where
       regrouped false q r s t = refl
 
   -- what the other rules' checks build on
-  pub counts-fit : fieldsFit d mem ≡ true → countsWithin (limitsOf (d .limits)) (d .counts) ≡ true
+  pub counts-tested : fieldsFit d mem ≡ true → countsWithin (limitsOf (d .limits)) (d .counts) ≡ true
   unfolding fieldsFit
-  counts-fit h = search (and-left, and-right)
+  counts-tested h = search (and-left, and-right)
 
   pub words-fit : fieldsFit d mem ≡ true → wordsHold d mem ≡ true
   unfolding fieldsFit

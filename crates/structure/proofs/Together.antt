@@ -19,7 +19,7 @@ use Rattle.memory.specs.Layout.{limitsOf, scratchWords, memoryOk, buffersOk}
 use Rattle.memory.specs.Decode.{slotsMade, lengthsAdd, decode}
 use Rattle.entries.specs.Nodes.{decodeNodes}
 use Rattle.structure.specs.Tests.{onlyRoot, fieldsFit, eachHolds}
-use Rattle.structure.proofs.Lists.{not-false, both-ways, ended, decided, ended-first, ended-second, decided-third}
+use Rattle.structure.proofs.Lists.{not-false, both-ways, ended-first, ended-second, decided-third}
 use Rattle.structure.proofs.CountsAndFields.{fields-decide}
 use Rattle.structure.proofs.TextsShown.{fields-decoded}
 
@@ -74,14 +74,6 @@ module _ (d : Document) (mem : List ℕ) where
   each-root : eachHolds d mem ≡ true → onlyRoot (decodeNodes d mem) ≡ true
   unfolding eachHolds
   each-root h = search (and-left, and-right)
-
-  pub each-ended : (t : Bool) → t ≡ (onlyRoot (decodeNodes d mem) && parentsHold (decodeNodes d mem) && blocksHold (decodeNodes d mem)) → not t ≡ true → false ≡ eachHolds d mem
-  unfolding eachHolds
-  each-ended t e q = ended (onlyRoot (decodeNodes d mem) && parentsHold (decodeNodes d mem) && blocksHold (decodeNodes d mem)) (textsHold (decode d mem)) t true e q
-
-  pub texts-decide : (t : Bool) → t ≡ (onlyRoot (decodeNodes d mem) && parentsHold (decodeNodes d mem) && blocksHold (decodeNodes d mem)) → not t ≡ false → (r : Bool) → r ≡ textsHold (decode d mem) → r ≡ eachHolds d mem
-  unfolding eachHolds
-  texts-decide t e q r f = decided (onlyRoot (decodeNodes d mem) && parentsHold (decodeNodes d mem) && blocksHold (decodeNodes d mem)) (textsHold (decode d mem)) t r e q f
 
 -- ---- with texts and names
 
@@ -199,10 +191,3 @@ module _ (d : Document) (mem : List ℕ) (ok : memoryOk d (length mem) ≡ true)
 
           pub fields-held : countsAndFieldsHold (decodeNodes d mem) ≡ true
           fields-held = sym (fields-decide d mem) ∙ ap₂ _&&_ fields-there (each-root d mem held)
-
--- scratch has a word for each text slot
-pub texts-inside : (d : Document) (mem scratch : ℕ) → buffersOk d mem scratch ≡ true → d .limits .texts ≤ scratch
-unfolding buffersOk scratchWords
-texts-inside d mem scratch h =
-    let b = leb-true (scratchWords (limitsOf (d .limits))) scratch (and-right (memoryOk d mem) (leb (scratchWords (limitsOf (d .limits))) scratch) h) in
-    omega arith

@@ -8,3 +8,7 @@ unfoldable pub marksAt : Limits → Which → ℕ
 marksAt l children = 4 * l .nodes
 marksAt l attributes = 4 * l .nodes + l .entries children
 marksAt l namespaces = 4 * l .nodes + l .entries children + l .entries attributes
+
+-- those of the text slots lie behind
+unfoldable pub textMarksAt : Limits → ℕ
+textMarksAt l = 4 * l .nodes + l .entries children + l .entries attributes + l .entries namespaces

@@ -3,18 +3,18 @@ ghost use mathlib.Core.Path.{_≡_};
 ghost use mathlib.Core.Bool.{true, _&&_};
 ghost use Prim.Native.Nat.{_≤_};
 ghost use lib.ListN.{length, replicate};
-ghost use Rattle.model.specs.RulesTest.{countsAndFieldsHold, freeListHolds, parentsHold, entriesHold, blocksHold, parentsEndHolds, oneRootElementHolds, textsHold, rulesHold};
-ghost use Rattle.memory.specs.Layout.{limitsOf, memoryOk, buffersOk};
-ghost use Rattle.memory.specs.Decode.{countsWithin, slotsMade, decode};
+ghost use Rattle.model.specs.RulesTest.{countsAndFieldsHold, freeListHolds, parentsHold, entriesHold, blocksHold, parentsEndHolds, oneRootElementHolds, rulesHold};
+ghost use Rattle.memory.specs.Layout.{memoryOk, buffersOk};
+ghost use Rattle.memory.specs.Decode.{slotsMade, decode};
 ghost use Rattle.entries.specs.Nodes.{decodeNodes, wordsHold};
 ghost use Rattle.structure.specs.Tests.{fieldsFit, eachHolds};
 use crate::each::check_each;
 use crate::fields::check_fields;
 use crate::free::check_free_list;
+use crate::pool::check_pool;
 use crate::root::check_root_element;
 use entries::node_lists::check_entries;
 use entries::node_paths::check_paths;
-use entries::node_texts::check_texts;
 use memory::layout::Document;
 use memory::read::made;
 
@@ -65,16 +65,6 @@ fn check_links(d: Document, mem: &[u64], scratch: &mut [u64]) -> bool
     check_ends(d, mem, &mut scratch[0..count])
 }
 
-// Rule 8, where rule 1 holds. Marks has a word for each text slot that the limit allows.
-fn check_pool(d: Document, mem: &[u64], marks: &mut [u64]) -> bool
-    requires { ⌜ (memoryOk d (length (now mem)) ≡ true) × (countsWithin (limitsOf (d .limits)) (d .counts) ≡ true) × (wordsHold d (now mem) ≡ true) ⌝ }
-    requires { ⌜ d .limits .texts ≤ length (now marks) ⌝ }
-    ensures { λ r. ⌜ r ≡ textsHold (decode d (now (mem .entry))) ⌝ }
-{
-    words::clear(marks);
-    check_texts(d, mem, marks)
-}
-
 // What is left of rule 1, and rules 3, 5 and 8.
 fn check_passes(d: Document, mem: &[u64], scratch: &mut [u64]) -> bool
     requires { ⌜ (buffersOk d (length (now mem)) (length (now scratch)) ≡ true) × (fieldsFit d (now mem) ≡ true) ⌝ }
@@ -83,9 +73,7 @@ fn check_passes(d: Document, mem: &[u64], scratch: &mut [u64]) -> bool
     if !check_each(d, mem, scratch) {
         return false;
     }
-    let l = d.limits;
-    let end = l.texts;
-    check_pool(d, mem, &mut scratch[0..end])
+    check_pool(d, mem, scratch)
 }
 
 // All eight rules.

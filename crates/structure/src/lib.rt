@@ -6,4 +6,5 @@ pub mod fields;
 pub mod free;
 pub mod node;
 pub mod parents;
+pub mod pool;
 pub mod root;

@@ -2,7 +2,7 @@
 -- Assumes nothing.
 use mathlib.Core.Path.{sym, _∙_}
 use Rattle.entries.proofs.Marks.{passed}
-use Rattle.entries.proofs.Texts.{texts-refused, names-refused, texts-decided}
+use Rattle.entries.proofs.Texts.{pool-broken, table-broken, pool-decided}
 use borrow.Author.Needs.{needs}
 use Rattle.entries.proofs.node_texts.check_texts.Statement.{statement}
 use Rattle.entries.proofs.node_texts.check_texts.Tie as tie
@@ -14,7 +14,7 @@ returns : tie.Need-returns
 returns c =
     let s = c .before .before .before .before in
     let a = s .args in
-    texts-refused (a .d) (a .mem .now) (s .pre .0 .0) (s .pre .0 .1) _ (c .before .texts-hold .ensures) (c .if1 .taken)
+    pool-broken (a .d) (a .mem .now) (s .pre .0 .0) (s .pre .0 .1) _ (c .before .texts-hold .ensures) (c .if1 .taken)
 
 names-hold-requires : tie.Need-names-hold-requires
 names-hold-requires c κs = search needs
@@ -23,12 +23,13 @@ returns-2 : tie.Need-returns-2
 returns-2 c =
     let s = c .before .before .before .before .before .before in
     let a = s .args in
-    names-refused (a .d) (a .mem .now) (s .pre .0 .0) (s .pre .0 .1) _ (c .before .names-hold .ensures) (c .if2 .taken)
+    table-broken (a .d) (a .mem .now) (s .pre .0 .0) (s .pre .0 .1) _ (c .before .before .before .texts-hold .ensures) (c .before .before .if1 .left) _ (c .before .names-hold .ensures) (c .if2 .taken)
 
-check-slots-requires : tie.Need-check-slots-requires
-check-slots-requires c κs =
+held-once-requires : tie.Need-held-once-requires
+held-once-requires c κs =
     let s = c .before .before .before .before .before .before .before in
-    ((s .pre .0 .0, s .pre .0 .1, sym (c .before .before .before .before .texts-hold .ensures) ∙ passed _ (c .before .before .before .if1 .left), s .pre .0 .2), s .pre .1)
+    let a = s .args in
+    ((s .pre .0 .0, s .pre .0 .1, sym (c .before .before .before .before .texts-hold .ensures) ∙ passed _ (c .before .before .before .if1 .left)), s .pre .1)
 
 same-length : tie.Need-same-length
 same-length c = search needs
@@ -37,7 +38,7 @@ returns-3 : tie.Need-returns-3
 returns-3 c =
     let s = c .before .before .before .before .before .before .before .before .before .before in
     let a = s .args in
-    texts-decided (a .d) (a .mem .now) (s .pre .0 .0) (s .pre .0 .1) _ _ (c .before .before .before .before .before .before .before .texts-hold .ensures) (c .before .before .before .before .before .before .if1 .left) (c .before .before .before .before .before .names-hold .ensures) (c .before .before .before .before .if2 .left) _ (c .before .before .check-slots .ensures)
+    pool-decided (a .d) (a .mem .now) (s .pre .0 .0) (s .pre .0 .1) _ (c .before .before .before .before .before .before .before .texts-hold .ensures) (c .before .before .before .before .before .before .if1 .left) _ (c .before .before .before .before .before .names-hold .ensures) (c .before .before .before .before .if2 .left) _ (c .before .before .held-once .ensures)
 
 pub check-texts-spec : {M : Type 1} → statement M
 check-texts-spec =
@@ -47,6 +48,6 @@ check-texts-spec =
     returns
     names-hold-requires
     returns-2
-    check-slots-requires
+    held-once-requires
     same-length
     returns-3)

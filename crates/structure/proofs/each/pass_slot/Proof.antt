@@ -12,12 +12,12 @@ is-live-requires : tie.Need-is-live-requires
 is-live-requires c κs =
     let s = c .before .before in
     let ok = buffers-memory (s .args .d) (length (s .args .mem .now)) (length (s .args .scratch .now)) (s .pre .0) in
-    (ok, s .pre .2, s .pre .1)
+    (ok, s .pre .3, s .pre .2)
 
 pass-live-requires : tie.Need-pass-live-requires
 pass-live-requires c κs =
     let s = c .before .before .before .before .before in
-    (s .pre .0, s .pre .1, sym (c .before .before .is-live .ensures) ∙ c .before .if1 .taken)
+    (s .pre .0, s .pre .1, s .pre .2, sym (c .before .before .is-live .ensures) ∙ c .before .if1 .taken)
 
 same-length : tie.Need-same-length
 same-length c = search needs

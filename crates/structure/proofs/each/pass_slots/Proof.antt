@@ -21,12 +21,12 @@ made-requires c κs = tt
 loop-holds : tie.Need-loop-holds Inv-loop μ-loop
 loop-holds c =
     let s = c .before .before .before in
-    (refl, sofar-none (s .args .d) (s .args .mem .now) (s .args .scratch .now) (s .pre .2))
+    (refl, sofar-none (s .args .d) (s .args .mem .now) (s .args .scratch .now) (s .pre .3))
 
 pass-slot-requires : tie.Need-pass-slot-requires Inv-loop μ-loop
 pass-slot-requires c κs =
     let s = c .before .before .before .before .before .before in
-    (buffers-kept (s .args .d) (length (s .args .mem .now)) (length (s .args .scratch .now)) _ (s .pre .0) (c .before .before .loop .inv .0), s .pre .1, omega (arith, c .before .before .before .made .ensures))
+    (buffers-kept (s .args .d) (length (s .args .mem .now)) (length (s .args .scratch .now)) _ (s .pre .0) (c .before .before .loop .inv .0), s .pre .1, s .pre .2, omega (arith, c .before .before .before .made .ensures))
 
 same-length : tie.Need-same-length Inv-loop μ-loop
 same-length c = omega arith
