@@ -8,11 +8,11 @@ ghost use Rattle.memory.specs.Decode.{decode};
 ghost use Rattle.compaction.specs.Copies.{lengthOf, withLength, copiesIn, Copies, ArenaCopied, Layable, NodeLayable, listLaid, nodeLaid};
 use memory::fields::is_element;
 use memory::fields::live_block;
-use memory::fields::put_block;
 use memory::layout::Arena;
 use memory::layout::Document;
 use memory::layout::arena_at;
 use memory::layout::arena_limit;
+use memory::write::put_range;
 use slots::NodeSlot;
 use slots::Range;
 use walks::order::slot_of;
@@ -88,7 +88,7 @@ fn lay_list(d: Document, mem: &mut [u64], slot: NodeSlot, arena: Arena, used: Le
         start: start as u32,
         len: block.len,
     };
-    put_block(d, mem, number as usize, arena, range);
+    put_range(d, mem, slot, arena, range);
     with_length(used, arena, start + block.len as usize)
 }
 

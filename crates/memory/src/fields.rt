@@ -8,7 +8,6 @@ ghost use Rattle.model.specs.Doc.{isNone, liveSlot, kindIn, parentIn, rangeIn};
 ghost use Rattle.memory.specs.Layout.{memoryOk, whichOf};
 ghost use Rattle.memory.specs.Decode.{blockOf, decode};
 ghost use Rattle.memory.specs.Words.{recordWord, blockAt};
-ghost use Rattle.memory.specs.Writing.{putRange};
 use crate::layout::Arena;
 use crate::layout::Document;
 use slots::Range;
@@ -46,18 +45,6 @@ pub fn live_block(d: Document, mem: &[u64], s: usize, arena: Arena) -> Range
         start: start as u32,
         len: len as u32,
     }
-}
-
-// Another block of the node in a slot.
-pub fn put_block(d: Document, mem: &mut [u64], s: usize, arena: Arena, block: Range)
-    requires { ⌜ (memoryOk d (length (now mem)) ≡ true) × (s < d .limits .nodes) ⌝ }
-    ensures { λ _. ⌜ now (mem .exit) ≡ putRange d (now (mem .entry)) s (whichOf arena) block ⌝ }
-{
-    let l = d.limits;
-    let n = l.nodes;
-    let at = n * 2 + s * 12 + block_at(arena);
-    mem[at] = block.start as u64;
-    mem[at + 1] = block.len as u64;
 }
 
 pub fn is_element(d: Document, mem: &[u64], s: usize) -> bool

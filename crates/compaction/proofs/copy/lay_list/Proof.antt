@@ -36,11 +36,8 @@ cast-t16 c =
     let e = c .before .before .before .before .length-in .ensures in
     omega (arith, e, block-room d mem w (s .args .slot .0) (s .args .used) (s .pre) (c .before .before .before .before .before .live-block .result) (c .before .before .before .before .before .live-block .ensures), narrow d mem w (s .args .slot .0) (s .args .used) (s .pre))
 
-cast-put-block : tie.Need-cast-put-block
-cast-put-block c = search needs
-
-put-block-requires : tie.Need-put-block-requires
-put-block-requires c κs =
+put-range-requires : tie.Need-put-range-requires
+put-range-requires c κs =
     let s = c .before .before .before .before .before .before .before .before .before in
     let d = s .args .d in
     let mem = s .args .mem .now in
@@ -71,7 +68,7 @@ returns c =
     let d = s .args .d in
     let mem = s .args .mem .now in
     let w = whichOf (s .args .arena) in
-    laid-with d mem w (s .args .slot .0) (s .args .used) (s .pre) (c .before .before .before .before .before .before .before .before .before .before .before .live-block .result) (c .before .before .before .before .before .before .before .before .before .before .before .live-block .ensures) _ (c .before .before .before .before .before .before .before .before .before .before .length-in .ensures) _ (c .before .before .before .before .before .before .before .before .copy-block .ensures) _ (c .before .before .before .before .put-block .ensures) _ (c .with-length .ensures)
+    laid-with d mem w (s .args .slot .0) (s .args .used) (s .pre) (c .before .before .before .before .before .before .before .before .before .before .before .live-block .result) (c .before .before .before .before .before .before .before .before .before .before .before .live-block .ensures) _ (c .before .before .before .before .before .before .before .before .before .before .length-in .ensures) _ (c .before .before .before .before .before .before .before .before .copy-block .ensures) _ (c .before .before .before .before .put-range .ensures) _ (c .with-length .ensures)
 
 pub lay-list-spec : {M : Type 1} → statement M
 lay-list-spec =
@@ -82,8 +79,7 @@ lay-list-spec =
     length-in-requires
     copy-block-requires
     cast-t16
-    cast-put-block
-    put-block-requires
+    put-range-requires
     cast-with-length
     add-with-length
     with-length-requires
