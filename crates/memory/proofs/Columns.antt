@@ -121,7 +121,7 @@ module _ (p : Pool) (names : List (Option Name)) (lengths : Bool) (d : Document)
   -- ---- a handle
 
   module _ (h : NodeId) (hi : h .index < 4294967296) (hg : h .generation < 4294967296) where
-    word-resolves : resolves D (wordOf h) ≡ (liveSlot D (h .index) && eqb (doc.generationAt D (h .index)) (h .generation))
+    pub word-resolves : resolves (decodeWith p names lengths d mem) (wordOf h) ≡ (liveSlot (decodeWith p names lengths d mem) (h .index) && eqb (doc.generationAt (decodeWith p names lengths d mem) (h .index)) (h .generation))
     word-resolves =
         ap (λ (g : ℕ). liveSlot D (handleIndex (wordOf h)) && eqb (doc.generationAt D (handleIndex (wordOf h))) g) (handleGeneration-wordOf h hi)
         ∙ ap (λ (i : ℕ). liveSlot D i && eqb (doc.generationAt D i) (h .generation)) (handleIndex-wordOf h hi)

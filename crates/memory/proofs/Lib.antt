@@ -1,6 +1,7 @@
 pub mod Limits
 pub mod Reading
 pub mod Columns
+pub mod Living
 pub mod Words
 pub mod Shaped
 pub mod Columned

@@ -6,10 +6,11 @@ ghost use lib.ListN.{length};
 ghost use Rattle.model.specs.Kinds.{isElement};
 ghost use Rattle.model.specs.Doc.{isNone, liveSlot, kindIn, parentIn, rangeIn};
 ghost use Rattle.memory.specs.Layout.{memoryOk, whichOf};
-ghost use Rattle.memory.specs.Decode.{blockOf, decode};
+ghost use Rattle.memory.specs.Decode.{blockOf, handleOf, decode};
 ghost use Rattle.memory.specs.Words.{recordWord, blockAt};
 use crate::layout::Arena;
 use crate::layout::Document;
+use slots::Parent;
 use slots::Range;
 
 // A word of a slot's record.
@@ -59,4 +60,13 @@ pub fn has_no_parent(d: Document, mem: &[u64], s: usize) -> bool
     ensures { λ r. ⌜ r ≡ isNone (parentIn (decode d (now (mem .entry))) s) ⌝ }
 {
     record_word(d, mem, s, 4) == 0
+}
+
+pub fn live_parent(d: Document, mem: &[u64], s: usize) -> Parent
+    requires { ⌜ (memoryOk d (length (now mem)) ≡ true) × (liveSlot (decode d (now mem)) s ≡ true) ⌝ }
+    ensures { λ r. ⌜ handleOf r ≡ parentIn (decode d (now (mem .entry))) s ⌝ }
+{
+    let word = record_word(d, mem, s, 4);
+    let generation = record_word(d, mem, s, 5);
+    slots::decode::parent_of(word, generation)
 }

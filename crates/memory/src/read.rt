@@ -4,9 +4,11 @@ ghost use mathlib.Core.Bool.{true};
 ghost use Prim.Native.Nat.{_<_};
 ghost use lib.ListN.{length, getD};
 ghost use Rattle.slots.specs.Regions.{generationAt, recordAt, orderAt, keyOf};
+ghost use Rattle.slots.specs.Handles.{wordOf};
 ghost use Rattle.model.specs.Kinds.{attributes, namespaces};
+ghost use Rattle.model.specs.Doc.{liveSlot, resolves};
 ghost use Rattle.memory.specs.Layout.{whichOf, limitsOf, memoryOk};
-ghost use Rattle.memory.specs.Decode.{blockOf, elementRange, rangeOf, slotsPart, slotsMade, slotsFree, arenaUsed, arenaIn, loadedAt, resolvedIn};
+ghost use Rattle.memory.specs.Decode.{blockOf, elementRange, rangeOf, slotsPart, slotsMade, slotsFree, arenaUsed, arenaIn, loadedAt, resolvedIn, decode};
 use crate::layout::Arena;
 use crate::layout::Document;
 use crate::layout::arena_at;
@@ -93,6 +95,37 @@ pub fn resolve(d: Document, mem: &[u64], id: NodeId) -> Loaded
     let n = l.nodes;
     let end = 15 * n;
     slots::slot::resolve(&mem[0..end], n, made(d), id)
+}
+
+// Whether a slot holds a live node: its generation is even and of 32 bits, and its words are a node.
+pub fn is_live(d: Document, mem: &[u64], slot: NodeSlot) -> bool
+    requires { ⌜ (memoryOk d (length (now mem)) ≡ true) × (slot .0 < slotsMade d) ⌝ }
+    ensures { λ r. ⌜ r ≡ liveSlot (decode d (now (mem .entry))) (slot .0) ⌝ }
+{
+    let word = generation(d, mem, slot);
+    if word >= 4294967296 {
+        return false;
+    }
+    if word % 2 != 0 {
+        return false;
+    }
+    slots::decode::is_node(record_words(d, mem, slot))
+}
+
+// Whether a handle resolves, for every handle. No node is built: what is shown of it is read behind this test, word by word.
+pub fn resolves(d: Document, mem: &[u64], id: NodeId) -> bool
+    requires { ⌜ memoryOk d (length (now mem)) ≡ true ⌝ }
+    ensures { λ r. ⌜ r ≡ resolves (decode d (now (mem .entry))) (wordOf id) ⌝ }
+{
+    let index = id.index;
+    if index as usize >= made(d) {
+        return false;
+    }
+    let slot = NodeSlot(index);
+    if generation(d, mem, slot) != id.generation as u64 {
+        return false;
+    }
+    is_live(d, mem, slot)
 }
 
 // An entry of an arena: the word of a handle.

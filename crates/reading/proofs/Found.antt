@@ -1,20 +1,23 @@
 -- What a handle shows in the decoded document, by the node that it resolves to.
 -- Assumes nothing.
-use mathlib.Core.Path.{_≡_, sym, ap, _∙_}
-use mathlib.Core.Bool.{Bool, true, false}
+use mathlib.Core.Path.{_≡_, refl, sym, ap, _∙_}
+use mathlib.Core.Bool.{Bool, true, false, true≢false}
 use mathlib.Core.Option.{Option, none}
 use mathlib.Core.List.{List}
 use Prim.Native.Nat.{ℕ, _<_}
 use lib.ListN.{length}
-use Rattle.slots.specs.Handles.{wordOf, handleIndex}
+use lib.Dec.{eqb}
+use Rattle.words.proofs.Tests.{and-left}
+use Rattle.slots.specs.Handles.{wordOf, handleIndex, handleGeneration}
 use Rattle.slots.specs.declared.NodeId.{NodeId}
 use Rattle.slots.specs.declared.Node.{Node}
+use Rattle.slots.specs.declared.Loaded.{Loaded}
 use Rattle.slots.specs.declared.Loaded.the-variants.{Found, NoNode}
 use Rattle.slots.proofs.Handles.{handleIndex-wordOf}
 use Rattle.texts.specs.Pool.{Pool}
 use Rattle.names.specs.Table.{Name}
 use Rattle.model.specs.Kinds.{Which, isElement}
-use Rattle.model.specs.Doc.{resolves, kindIn, kindAt, parentIn, parentAt, rangeIn, showsElement}
+use Rattle.model.specs.Doc.{generationAt, liveSlot, resolves, kindIn, kindAt, parentIn, parentAt, rangeIn, showsElement}
 use Rattle.model.specs.Calls.{Answered, Call, refused, node, step, parent-of}
 use Rattle.memory.specs.declared.layout.Document.{Document}
 use Rattle.memory.specs.Layout.{memoryOk}
@@ -60,20 +63,33 @@ module _ (d : Document) (mem : List ℕ) (h : NodeId) (hi : h .index < 429496729
           range = λ a. ap (rangeIn D a) i ∙ range-found p names lengths d mem (h .index) (r .slot-made) m (r .loaded) a;
         }
 
-    pub element-found : (t : Bool) → t ≡ isElement (kindOf (m .«data»)) → t ≡ showsElement (decode d mem) (wordOf h)
-    element-found t q =
-        let s = shown (poolIn d mem) (namesIn d mem) (lengthsAdd d mem) in
-        q ∙ sym (rw (s .resolving, s .kind))
+-- ---- what the test of a handle tells
 
-    pub parent-shown : (a : Answered) → a ≡ node (handleOf (m .parent)) → (p : Pool) (names : List (Option Name)) (lengths : Bool)
-        → a ≡ step (parent-of (wordOf h)) (decodeWith p names lengths d mem) .answer
-    parent-shown a q p names lengths =
-        let s = shown p names lengths in
-        q ∙ sym (rw (s .resolving, s .parent))
+module _ (d : Document) (mem : List ℕ) (h : NodeId) (hi : h .index < 4294967296) (hg : h .generation < 4294967296) (t : Bool) (e : t ≡ resolves (decode d mem) (wordOf h)) where
+  -- the slot of a handle that resolves is live
+  pub live-shown : t ≡ true → liveSlot (decode d mem) (h .index) ≡ true
+  live-shown q =
+      ap (liveSlot (decode d mem)) (sym (handleIndex-wordOf h hi))
+      ∙ and-left (liveSlot (decode d mem) (handleIndex (wordOf h))) (eqb (generationAt (decode d mem) (handleIndex (wordOf h))) (handleGeneration (wordOf h))) (sym e ∙ q)
 
-  module _ (e : resolvedIn d mem h ≡ NoNode) where
-    pub element-stale : false ≡ showsElement (decode d mem) (wordOf h)
-    element-stale = rw (resolved-none (poolIn d mem) (namesIn d mem) (lengthsAdd d mem) d mem h hi hg e)
+  -- and it has a node
+  pub by-node : (P : Type 0) → t ≡ true → ((m : Node) → Shown (poolIn d mem) (namesIn d mem) (lengthsAdd d mem) d mem h m → P) → P
+  by-node P q f = go (resolvedIn d mem h) refl
+    where
+      go : (x : Loaded) → resolvedIn d mem h ≡ x → P
+      go (Found m) r = f m (shown d mem h hi hg m r (poolIn d mem) (namesIn d mem) (lengthsAdd d mem))
+      go NoNode r = absurd (true≢false (sym q ∙ e ∙ resolved-none (poolIn d mem) (namesIn d mem) (lengthsAdd d mem) d mem h hi hg r))
 
-    pub parent-stale : (p : Pool) (names : List (Option Name)) (lengths : Bool) → node none ≡ step (parent-of (wordOf h)) (decodeWith p names lengths d mem) .answer
-    parent-stale p names lengths = rw (resolved-none p names lengths d mem h hi hg e)
+  pub element-shown : t ≡ true → (u : Bool) → u ≡ isElement (kindIn (decode d mem) (h .index)) → u ≡ showsElement (decode d mem) (wordOf h)
+  element-shown q u k =
+      k ∙ ap (λ (i : ℕ). isElement (kindIn (decode d mem) i)) (sym (handleIndex-wordOf h hi)) ∙ sym (rw (sym e ∙ q))
+
+  pub element-stale : t ≡ false → false ≡ showsElement (decode d mem) (wordOf h)
+  element-stale f = sym (rw (sym e ∙ f))
+
+  pub parent-shown : t ≡ true → (a : Answered) (o : Option ℕ) → a ≡ node o → o ≡ parentIn (decode d mem) (h .index) → a ≡ step (parent-of (wordOf h)) (decode d mem) .answer
+  parent-shown q a o k p =
+      k ∙ ap node (p ∙ ap (parentIn (decode d mem)) (sym (handleIndex-wordOf h hi))) ∙ sym (rw (sym e ∙ q))
+
+  pub parent-stale : t ≡ false → node none ≡ step (parent-of (wordOf h)) (decode d mem) .answer
+  parent-stale f = sym (rw (sym e ∙ f))

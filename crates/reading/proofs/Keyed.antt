@@ -13,19 +13,17 @@ use Rattle.slots.specs.Handles.{wordOf, handleIndex}
 use Rattle.slots.specs.Regions as regions
 use Rattle.slots.specs.Regions.{orderAt}
 use Rattle.slots.specs.declared.NodeId.{NodeId}
-use Rattle.slots.specs.declared.Node.{Node}
-use Rattle.slots.specs.declared.Loaded.the-variants.{Found, NoNode}
 use Rattle.slots.specs.declared.OrderKey.{OrderKey}
 use Rattle.slots.specs.declared.OrderKey.the-variants.{None, At}
 use Rattle.slots.proofs.Handles.{handleIndex-wordOf}
 use Rattle.texts.specs.Pool.{Pool}
 use Rattle.names.specs.Table.{Name}
-use Rattle.model.specs.Doc.{noKey}
+use Rattle.model.specs.Doc.{noKey, resolves}
 use Rattle.model.specs.Calls.{Answered, key, keyOf, refused, step, order-key}
 use Rattle.memory.specs.declared.layout.Document.{Document}
-use Rattle.memory.specs.Decode.{slotsPart, resolvedIn, poolIn, namesIn, lengthsAdd, decodeWith}
-use Rattle.memory.proofs.Columns.{resolved-none}
-use Rattle.reading.proofs.Found.{shown}
+use Rattle.memory.specs.Decode.{slotsPart, poolIn, namesIn, lengthsAdd, decode}
+use Rattle.memory.proofs.Columns.{live-made}
+use Rattle.reading.proofs.Found.{live-shown}
 
 abbrev optional : OrderKey → Option ℕ
 optional None = none
@@ -52,23 +50,21 @@ module _ (current : Bool) (word : ℕ) where
 pub order-stale : (current : Bool) (a : Answered) → current ≡ false → refused 15 ≡ cond current a (refused 15)
 order-stale current a e = sym (rw e)
 
-module _ (d : Document) (mem : List ℕ) (h : NodeId) (hi : h .index < 4294967296) (hg : h .generation < 4294967296) where
-  pub found-inside : (m : Node) → resolvedIn d mem h ≡ Found m → h .index < d .limits .nodes
-  found-inside m e =
-      let b = shown d mem h hi hg m e (poolIn d mem) (namesIn d mem) (lengthsAdd d mem) .slot-made in
+module _ (d : Document) (mem : List ℕ) (h : NodeId) (hi : h .index < 4294967296) (hg : h .generation < 4294967296) (t : Bool) (e : t ≡ resolves (decode d mem) (wordOf h)) where
+  pub slot-inside : t ≡ true → h .index < d .limits .nodes
+  slot-inside q =
+      let b = live-made (poolIn d mem) (namesIn d mem) (lengthsAdd d mem) d mem (h .index) (live-shown d mem h hi hg t e q) in
       omega arith
 
-  pub key-found : (m : Node) → resolvedIn d mem h ≡ Found m → (a : Answered)
-      → a ≡ cond (d .current) (key (keyOf (orderAt (d .limits .nodes) (slotsPart d mem) (h .index)))) (refused 15)
-      → (p : Pool) (names : List (Option Name)) (lengths : Bool) → a ≡ step (order-key (wordOf h)) (decodeWith p names lengths d mem) .answer
-  key-found m e a q p names lengths =
-      let D = decodeWith p names lengths d mem in
+  pub key-shown : t ≡ true → (a : Answered) → a ≡ cond (d .current) (key (keyOf (orderAt (d .limits .nodes) (slotsPart d mem) (h .index)))) (refused 15)
+      → a ≡ step (order-key (wordOf h)) (decode d mem) .answer
+  key-shown q a k =
+      let D = decode d mem in
       let n = d .limits .nodes in
-      let s = shown d mem h hi hg m e p names lengths in
-      let word : getD (decodeWith p names lengths d mem .order) (handleIndex (wordOf h)) noKey ≡ orderAt (d .limits .nodes) (slotsPart d mem) (h .index) =
+      let word : getD (decode d mem .order) (handleIndex (wordOf h)) noKey ≡ orderAt (d .limits .nodes) (slotsPart d mem) (h .index) =
       ap (λ (i : ℕ). getD (D .order) i noKey) (handleIndex-wordOf h hi)
-      ∙ getD-tabulate (orderAt n (slotsPart d mem)) n (h .index) noKey (found-inside m e) in
-      q ∙ sym (rw (s .resolving, word))
+      ∙ getD-tabulate (orderAt n (slotsPart d mem)) n (h .index) noKey (slot-inside q) in
+      k ∙ sym (rw (sym e ∙ q, word))
 
-  pub key-stale : resolvedIn d mem h ≡ NoNode → (p : Pool) (names : List (Option Name)) (lengths : Bool) → key none ≡ step (order-key (wordOf h)) (decodeWith p names lengths d mem) .answer
-  key-stale e p names lengths = rw (resolved-none p names lengths d mem h hi hg e)
+  pub key-stale : t ≡ false → key none ≡ step (order-key (wordOf h)) (decode d mem) .answer
+  key-stale f = sym (rw (sym e ∙ f))

@@ -18,18 +18,17 @@ use Rattle.slots.specs.declared.NodeData.{NodeData}
 use Rattle.slots.specs.declared.NodeData.the-variants as given
 use Rattle.slots.specs.declared.Node.{Node}
 use Rattle.slots.specs.declared.Range.{Range}
-use Rattle.slots.specs.declared.Loaded.the-variants.{Found, NoNode}
+use Rattle.slots.proofs.Handles.{handleIndex-wordOf}
 use Rattle.model.specs.Kinds.{Which, children, attributes, namespaces, isElement}
 use Rattle.model.specs.Doc.{hasList, resolves, kindAt, rangeIn, shownBlock}
 use Rattle.model.specs.Calls.{listed, lists, step}
 use Rattle.memory.specs.declared.layout.Document.{Document}
 use Rattle.memory.specs.Layout.{limitsOf, entriesOf, arenaAt, memoryOk}
-use Rattle.memory.specs.Decode.{kindOf, blockOf, elementRange, rangeOf, arenaPart, arenaUsed, arenaIn, resolvedIn, poolIn, namesIn, lengthsAdd, decode}
-use Rattle.memory.proofs.Columns.{resolved-none}
+use Rattle.memory.specs.Decode.{kindOf, blockOf, elementRange, rangeOf, arenaPart, arenaUsed, arenaIn, decode}
 use Rattle.reading.specs.Answers.{entriesShown}
 use Rattle.reading.specs.Contract.{listCall}
 use Rattle.reading.proofs.Lists.{part-take}
-use Rattle.reading.proofs.Found.{shown}
+use Rattle.reading.proofs.Found.{by-node}
 
 -- a block, or an empty one where it is not within an arena of this length
 abbrev bounded : ℕ → Block → Block
@@ -56,19 +55,19 @@ shown-range children m used = refl
 shown-range attributes m used = element-range attributes (m .«data») used
 shown-range namespaces m used = element-range namespaces (m .«data») used
 
-module _ (d : Document) (mem : List ℕ) (h : NodeId) (hi : h .index < 4294967296) (hg : h .generation < 4294967296) (w : Which) where
-  pub block-found : (m : Node) → resolvedIn d mem h ≡ Found m → (b r : Block) (used : ℕ) → b ≡ rangeOf w m → used ≡ arenaUsed d w
+module _ (d : Document) (mem : List ℕ) (h : NodeId) (hi : h .index < 4294967296) (hg : h .generation < 4294967296) (w : Which) (t : Bool) (e : t ≡ resolves (decode d mem) (wordOf h)) where
+  pub block-shown : t ≡ true → (b r : Block) (used : ℕ) → b ≡ rangeIn (decode d mem) w (h .index) → used ≡ arenaUsed d w
       → r ≡ cond (leb (b .start + b .len) used) b (block 0 0) → r ≡ shownBlock (decode d mem) w (wordOf h)
-  block-found m e b r used q u k =
-      let s = shown d mem h hi hg m e (poolIn d mem) (namesIn d mem) (lengthsAdd d mem) in
-      k
-      ∙ ap (λ (c : Block). bounded used c) q
+  block-shown q b r used k u c =
+      by-node d mem h hi hg t e (r ≡ shownBlock (decode d mem) w (wordOf h)) q (λ m s.
+      c
+      ∙ ap (λ (x : Block). bounded used x) (k ∙ ap (rangeIn (decode d mem) w) (sym (handleIndex-wordOf h hi)) ∙ s .range w)
       ∙ ap (λ (n : ℕ). bounded n (rangeOf w m)) u
       ∙ sym (shown-range w m (arenaUsed d w))
-      ∙ sym (rw (s .resolving, s .kind, s .range w))
+      ∙ sym (rw (s .resolving, s .kind, s .range w)))
 
-  pub block-stale : resolvedIn d mem h ≡ NoNode → block 0 0 ≡ shownBlock (decode d mem) w (wordOf h)
-  block-stale e = rw (resolved-none (poolIn d mem) (namesIn d mem) (lengthsAdd d mem) d mem h hi hg e)
+  pub block-stale : t ≡ false → block 0 0 ≡ shownBlock (decode d mem) w (wordOf h)
+  block-stale f = sym (rw (sym e ∙ f))
 
 module _ (d : Document) (mem : List ℕ) (h : ℕ) where
   lists-step : (w : Which) → lists (decode d mem) w h ≡ step (listCall w h) (decode d mem) .answer

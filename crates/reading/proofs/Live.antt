@@ -1,11 +1,12 @@
 -- The list of all live nodes, slot by slot.
 -- Assumes nothing.
 use mathlib.Core.Path.{_≡_, refl, sym, ap, _∙_}
-use mathlib.Core.Bool.{Bool, true, false, _&&_, cond}
+use mathlib.Core.Bool.{Bool, true, false, _&&_, cond, true≢false}
 use mathlib.Core.List.{List, [], _∷_, _++_, append-nil}
 use Prim.Native.Nat.{ℕ, zero, suc, _+_, _*_, _%_, _≤_, _<_}
 use native.Mathlib.Nat.{add-zero}
 use native.Mathlib.Numerals.{add-one}
+use native.Mathlib.Decide.{decLt}
 use native.Mathlib.Omega.{arith}
 use lib.ListN.{length, take, set, length-append}
 use lib.Dec.{ltb, leb}
@@ -15,16 +16,14 @@ use Rattle.words.specs.Lists.{joined, tabulate}
 use Rattle.words.proofs.Parts.{put-nil, set-put, part-put-same}
 use Rattle.words.proofs.Tests.{and-left, and-right}
 use Rattle.words.proofs.Joined.{joined-append}
-use Rattle.slots.specs.Regions.{generationAt, nodeAt}
-use Rattle.slots.specs.declared.Node.{Node}
-use Rattle.slots.specs.declared.Loaded.{Loaded}
-use Rattle.slots.specs.declared.Loaded.the-variants.{Found, NoNode}
-use Rattle.model.specs.Doc.{Doc, even, liveSlot, handleAt, liveNodes}
+use Rattle.slots.specs.Regions.{generationAt}
+use Rattle.model.specs.Doc.{Doc, liveSlot, handleAt, liveNodes}
 use Rattle.model.specs.Calls.{everyNode, nodes}
 use Rattle.memory.specs.declared.layout.Document.{Document}
 use Rattle.memory.specs.Layout.{memoryOk}
-use Rattle.memory.specs.Decode.{loadedAt, slotsPart, slotsMade, poolIn, namesIn, lengthsAdd, decode}
-use Rattle.memory.proofs.Columns.{length-gens, handle-in, live-found, live-none}
+use Rattle.memory.specs.Decode.{slotsPart, slotsMade, poolIn, namesIn, lengthsAdd, decode}
+use Rattle.memory.proofs.Columns.{length-gens, handle-in}
+use Rattle.memory.proofs.Living.{live-wide}
 use Rattle.reading.specs.declared.answers.NodesAnswer.the-variants.{Count, Refused}
 use Rattle.model.specs.declared.Refusal.the-variants.{BadBuffers}
 use Rattle.reading.specs.Nodes.{liveEntry}
@@ -34,15 +33,13 @@ use Rattle.reading.proofs.Lists.{put-append}
 -- ---- a slot
 
 module _ (d : Document) (mem : List ℕ) (s : ℕ) (b : s < slotsMade d) where
-  pub generation-narrow : (m : Node) → loadedAt (d .limits .nodes) (slotsPart d mem) s ≡ Found m → generationAt (d .limits .nodes) (slotsPart d mem) s < 4294967296
-  generation-narrow m e = go (ltb (generationAt (d .limits .nodes) (slotsPart d mem) s) 4294967296) refl e
+  -- a live slot's generation is of 32 bits
+  pub generation-narrow : (g : ℕ) → g ≡ generationAt (d .limits .nodes) (slotsPart d mem) s → liveSlot (decode d mem) s ≡ true → g < 4294967296
+  generation-narrow g k l = go (decLt g 4294967296)
     where
-      go : (t : Bool) → ltb (generationAt (d .limits .nodes) (slotsPart d mem) s) 4294967296 ≡ t
-          → cond t (nodeAt (d .limits .nodes) (slotsPart d mem) s) NoNode ≡ Found m → generationAt (d .limits .nodes) (slotsPart d mem) s < 4294967296
-      go true q k = ltb-true _ _ q
-      go false q k =
-          let z : _≡_ {A = ℕ} 0 1 = cc in
-          absurd (omega arith)
+      go : Dec (g < 4294967296) → g < 4294967296
+      go (yes h) = h
+      go (no h) = absurd (true≢false (sym l ∙ sym (live-wide d mem s b g k (omega arith))))
 
   entry-live : liveSlot (decode d mem) s ≡ true → liveEntry (decode d mem) s ≡ handleAt (decode d mem) s ∷ []
   unfolding liveEntry
@@ -56,24 +53,17 @@ module _ (d : Document) (mem : List ℕ) (s : ℕ) (b : s < slotsMade d) where
     put-none : liveEntry (decode d mem) s ≡ [] → (count ≡ count + length (liveEntry (decode d mem) s)) × (o ≡ put count (liveEntry (decode d mem) s) o)
     put-none e = (rw e (sym (add-zero count)), rw e (sym (put-nil o count [])))
 
-    module _ (l : Loaded) (q : l ≡ loadedAt (d .limits .nodes) (slotsPart d mem) s) where
-      pub slot-none : l ≡ NoNode → (count ≡ count + length (liveEntry (decode d mem) s)) × (o ≡ put count (liveEntry (decode d mem) s) o)
-      slot-none e = put-none (entry-none (live-none (poolIn d mem) (namesIn d mem) (lengthsAdd d mem) d mem s b (sym q ∙ e)))
+    module _ (t : Bool) (q : t ≡ liveSlot (decode d mem) s) where
+      pub slot-none : t ≡ false → (count ≡ count + length (liveEntry (decode d mem) s)) × (o ≡ put count (liveEntry (decode d mem) s) o)
+      slot-none e = put-none (entry-none (sym q ∙ e))
 
-      module _ (m : Node) (e : l ≡ Found m) (g : ℕ) (k : g ≡ generationAt (d .limits .nodes) (slotsPart d mem) s) where
-        alive : liveSlot (decode d mem) s ≡ even g
-        alive = live-found (poolIn d mem) (namesIn d mem) (lengthsAdd d mem) d mem s b m (sym q ∙ e) ∙ ap even (sym k)
-
-        pub slot-odd : (g % 2 ≡ 0 → ⊥) → (count ≡ count + length (liveEntry (decode d mem) s)) × (o ≡ put count (liveEntry (decode d mem) s) o)
-        slot-odd n = put-none (entry-none (alive ∙ ne-eqb (g % 2) 0 n))
-
-        pub slot-live : g % 2 ≡ 0 → count < length o
-            → (count + 1 ≡ count + length (liveEntry (decode d mem) s)) × (set o count (s + g * 4294967296) ≡ put count (liveEntry (decode d mem) s) o)
-        slot-live v f =
-            let w : liveEntry (decode d mem) s ≡ (s + g * 4294967296) ∷ [] =
-            entry-live (alive ∙ eq-eqb (g % 2) 0 v)
-            ∙ ap (λ (x : ℕ). x ∷ []) (handle-in (poolIn d mem) (namesIn d mem) (lengthsAdd d mem) d mem s b ∙ ap (λ (x : ℕ). s + x * 4294967296) (sym k)) in
-            (rw w refl, set-put o count (s + g * 4294967296) f ∙ ap (λ (r : List ℕ). put count r o) (sym w))
+      pub slot-live : t ≡ true → (g : ℕ) → g ≡ generationAt (d .limits .nodes) (slotsPart d mem) s → count < length o
+          → (count + 1 ≡ count + length (liveEntry (decode d mem) s)) × (set o count (s + g * 4294967296) ≡ put count (liveEntry (decode d mem) s) o)
+      slot-live e g k f =
+          let w : liveEntry (decode d mem) s ≡ (s + g * 4294967296) ∷ [] =
+          entry-live (sym q ∙ e)
+          ∙ ap (λ (x : ℕ). x ∷ []) (handle-in (poolIn d mem) (namesIn d mem) (lengthsAdd d mem) d mem s b ∙ ap (λ (x : ℕ). s + x * 4294967296) (sym k)) in
+          (rw w refl, set-put o count (s + g * 4294967296) f ∙ ap (λ (r : List ℕ). put count r o) (sym w))
 
 -- ---- the slots below a number
 

@@ -13,7 +13,6 @@ use crate::shown::shows_element;
 use memory::layout::Arena;
 use memory::layout::Document;
 use model::Refusal;
-use slots::Loaded;
 use slots::NodeId;
 use slots::Parent;
 
@@ -42,12 +41,11 @@ pub fn parent(d: Document, mem: &[u64], id: NodeId) -> NodeAnswer
     ensures { λ r. ⌜ ofNode r ≡ reads (parent-of (wordOf id)) d (now (mem .entry)) ⌝ }
 {
     if memory::layout::memory_ok(d, mem.len()) {
-        match memory::read::resolve(d, mem, id) {
-            Loaded::Found(node) => {
-                let parent = node.parent;
-                parent_found(parent)
-            }
-            Loaded::NoNode => NodeAnswer::Nothing,
+        if memory::read::resolves(d, mem, id) {
+            let index = id.index;
+            parent_found(memory::fields::live_parent(d, mem, index as usize))
+        } else {
+            NodeAnswer::Nothing
         }
     } else {
         NodeAnswer::Refused(Refusal::BadBuffers)

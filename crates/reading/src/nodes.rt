@@ -13,7 +13,6 @@ ghost use Rattle.reading.specs.Contract.{NodesRead};
 use crate::answers::NodesAnswer;
 use memory::layout::Document;
 use model::Refusal;
-use slots::Loaded;
 use slots::NodeSlot;
 
 // Writes the handle of a live slot at index count, and answers the count then.
@@ -23,18 +22,13 @@ fn put_live(d: Document, mem: &[u64], out: &mut [u64], slot: NodeSlot, count: us
     ensures { λ r. ⌜ r ≡ count + length (liveEntry (decode d (now (mem .entry))) (slot .0)) ⌝ }
     ensures { λ _. ⌜ now (out .exit) ≡ put count (liveEntry (decode d (now (mem .entry))) (slot .0)) (now (out .entry)) ⌝ }
 {
-    match memory::read::load(d, mem, slot) {
-        Loaded::Found(_) => {
-            let generation = memory::read::generation(d, mem, slot);
-            if generation % 2 == 0 {
-                let index = slot.0;
-                out[count] = index as u64 + generation * 4294967296;
-                return count + 1;
-            }
-            count
-        }
-        Loaded::NoNode => count,
+    if memory::read::is_live(d, mem, slot) {
+        let generation = memory::read::generation(d, mem, slot);
+        let index = slot.0;
+        out[count] = index as u64 + generation * 4294967296;
+        return count + 1;
     }
+    count
 }
 
 fn write_nodes(d: Document, mem: &[u64], out: &mut [u64]) -> usize

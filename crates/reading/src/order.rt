@@ -14,7 +14,6 @@ use crate::answers::KeyAnswer;
 use crate::answers::RootAnswer;
 use memory::layout::Document;
 use model::Refusal;
-use slots::Loaded;
 use slots::NodeId;
 use slots::NodeSlot;
 use slots::OrderKey;
@@ -53,9 +52,10 @@ pub fn order_key(d: Document, mem: &[u64], id: NodeId) -> KeyAnswer
     ensures { λ r. ⌜ ofKey r ≡ reads (order-key (wordOf id)) d (now (mem .entry)) ⌝ }
 {
     if memory::layout::memory_ok(d, mem.len()) {
-        match memory::read::resolve(d, mem, id) {
-            Loaded::Found(_) => live_key(d, mem, NodeSlot(id.index)),
-            Loaded::NoNode => KeyAnswer::Nothing,
+        if memory::read::resolves(d, mem, id) {
+            live_key(d, mem, NodeSlot(id.index))
+        } else {
+            KeyAnswer::Nothing
         }
     } else {
         KeyAnswer::Refused(Refusal::BadBuffers)

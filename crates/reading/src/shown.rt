@@ -7,17 +7,15 @@ ghost use lib.Dec.{leb};
 ghost use Rattle.words.specs.Lists.{find};
 ghost use Rattle.blocks.specs.Arena.{block, listOf};
 ghost use Rattle.slots.specs.Handles.{wordOf};
-ghost use Rattle.model.specs.Kinds.{children, isElement};
+ghost use Rattle.model.specs.Kinds.{children};
 ghost use Rattle.model.specs.Doc.{shownBlock, showsElement};
 ghost use Rattle.model.specs.Calls.{node};
 ghost use Rattle.memory.specs.Layout.{whichOf, entriesOf, memoryOk};
-ghost use Rattle.memory.specs.Decode.{kindOf, blockOf, arenaIn, decode};
+ghost use Rattle.memory.specs.Decode.{blockOf, arenaIn, decode};
 ghost use Rattle.reading.specs.Answers.{ofNode};
 use crate::answers::NodeAnswer;
 use memory::layout::Arena;
 use memory::layout::Document;
-use slots::Loaded;
-use slots::NodeData;
 use slots::NodeId;
 use slots::Range;
 
@@ -37,26 +35,12 @@ pub fn shown_block(d: Document, mem: &[u64], id: NodeId, arena: Arena) -> Range
     requires { ⌜ memoryOk d (length (now mem)) ≡ true ⌝ }
     ensures { λ r. ⌜ blockOf r ≡ shownBlock (decode d (now (mem .entry))) (whichOf arena) (wordOf id) ⌝ }
 {
-    match memory::read::resolve(d, mem, id) {
-        Loaded::Found(node) => within(
-            memory::read::range_of(node, arena),
-            memory::read::arena_used(d, arena),
-        ),
-        Loaded::NoNode => Range { start: 0, len: 0 },
-    }
-}
-
-fn element(data: NodeData) -> bool
-    ensures { λ r. ⌜ r ≡ isElement (kindOf «data») ⌝ }
-{
-    match data {
-        NodeData::Root => false,
-        NodeData::Element { .. } => true,
-        NodeData::Attr { .. } => false,
-        NodeData::Text(_) => false,
-        NodeData::Comment(_) => false,
-        NodeData::Namespace { .. } => false,
-        NodeData::ProcessingInstruction { .. } => false,
+    if memory::read::resolves(d, mem, id) {
+        let index = id.index;
+        let block = memory::fields::live_block(d, mem, index as usize, arena);
+        within(block, memory::read::arena_used(d, arena))
+    } else {
+        Range { start: 0, len: 0 }
     }
 }
 
@@ -65,12 +49,11 @@ pub fn shows_element(d: Document, mem: &[u64], id: NodeId) -> bool
     requires { ⌜ memoryOk d (length (now mem)) ≡ true ⌝ }
     ensures { λ r. ⌜ r ≡ showsElement (decode d (now (mem .entry))) (wordOf id) ⌝ }
 {
-    match memory::read::resolve(d, mem, id) {
-        Loaded::Found(node) => {
-            let data = node.data;
-            element(data)
-        }
-        Loaded::NoNode => false,
+    if memory::read::resolves(d, mem, id) {
+        let index = id.index;
+        memory::fields::is_element(d, mem, index as usize)
+    } else {
+        false
     }
 }
 

@@ -2,37 +2,38 @@
 -- Assumes nothing.
 use mathlib.Core.Path.{sym, _∙_}
 use native.Mathlib.Omega.{arith}
+use Rattle.reading.proofs.Found.{refused-reads, decoded-reads, live-shown, parent-shown, parent-stale}
 use borrow.Author.Needs.{needs}
-use Rattle.reading.proofs.Found.{refused-reads, accepted-reads, parent-shown, parent-stale}
 use Rattle.reading.proofs.node.parent.Statement.{statement}
 use Rattle.reading.proofs.node.parent.Tie as tie
 
 memory-ok-requires : tie.Need-memory-ok-requires
 memory-ok-requires c κs = search needs
 
-resolve-requires : tie.Need-resolve-requires
-resolve-requires c κs = sym (c .before .memory-ok .ensures) ∙ c .if1 .taken
+resolves-requires : tie.Need-resolves-requires
+resolves-requires c κs = sym (c .before .memory-ok .ensures) ∙ c .if1 .taken
 
-enum-known-node : tie.Need-enum-known-node
-enum-known-node c = search needs
+cast-live-parent : tie.Need-cast-live-parent
+cast-live-parent c = search needs
+
+live-parent-requires : tie.Need-live-parent-requires
+live-parent-requires c κs =
+    let a = c .before .before .before .before .before .args in
+    (sym (c .before .before .before .memory-ok .ensures) ∙ c .before .before .if1 .taken, live-shown (a .d) (a .mem .now) (a .id) (omega arith) (omega arith) _ (c .before .resolves .ensures) (c .if2 .taken))
 
 parent-found-requires : tie.Need-parent-found-requires
 parent-found-requires c κs = search needs
 
-enum-told : tie.Need-enum-told
-enum-told c = search needs
-
 returns : tie.Need-returns
 returns c =
-    let a = c .before .before .before .before .before .before .before .before .args in
-    accepted-reads (a .d) (a .mem .now) _ (c .before .before .before .before .before .before .memory-ok .ensures) _ _ (c .before .before .before .before .before .if1 .taken)
-    (parent-shown (a .d) (a .mem .now) (a .id) (omega arith) (omega arith) _ (sym (c .before .before .before .before .resolve .ensures) ∙ c .before .before .node .given .1) _ (c .parent-found .ensures))
+    let a = c .before .before .before .before .before .before .before .args in
+    decoded-reads (a .d) (a .mem .now) _ (c .before .before .before .before .before .memory-ok .ensures) _ _ (c .before .before .before .before .if1 .taken)
+    (parent-shown (a .d) (a .mem .now) (a .id) (omega arith) (omega arith) _ (c .before .before .before .resolves .ensures) (c .before .before .if2 .taken) _ _ (c .parent-found .ensures) (c .before .live-parent .ensures))
 
 returns-2 : tie.Need-returns-2
 returns-2 c =
-    let a = c .before .before .before .before .before .before .args in
-    accepted-reads (a .d) (a .mem .now) _ (c .before .before .before .before .memory-ok .ensures) _ _ (c .before .before .before .if1 .taken)
-    (parent-stale (a .d) (a .mem .now) (a .id) (omega arith) (omega arith) (sym (c .before .before .resolve .ensures) ∙ c .enum-told .given .1))
+    let a = c .before .before .before .before .before .args in
+    decoded-reads (a .d) (a .mem .now) _ (c .before .before .before .memory-ok .ensures) _ _ (c .before .before .if1 .taken) (parent-stale (a .d) (a .mem .now) (a .id) (omega arith) (omega arith) _ (c .before .resolves .ensures) (c .if2 .left))
 
 returns-3 : tie.Need-returns-3
 returns-3 c =
@@ -44,10 +45,10 @@ parent-spec =
     tie.close
     (tie.spec
     memory-ok-requires
-    resolve-requires
-    enum-known-node
+    resolves-requires
+    cast-live-parent
+    live-parent-requires
     parent-found-requires
-    enum-told
     returns
     returns-2
     returns-3)

@@ -2,16 +2,13 @@
 -- Assumes nothing.
 use mathlib.Core.Path.{sym, _∙_}
 use native.Mathlib.Omega.{arith}
-use Rattle.reading.proofs.Live.{generation-narrow, slot-none, slot-odd, slot-live}
+use Rattle.reading.proofs.Live.{generation-narrow, slot-none, slot-live}
 use borrow.Author.Needs.{needs}
 use Rattle.reading.proofs.nodes.put_live.Statement.{statement}
 use Rattle.reading.proofs.nodes.put_live.Tie as tie
 
-load-requires : tie.Need-load-requires
-load-requires c κs = search needs
-
-enum-told : tie.Need-enum-told
-enum-told c = search needs
+is-live-requires : tie.Need-is-live-requires
+is-live-requires c κs = search needs
 
 generation-requires : tie.Need-generation-requires
 generation-requires c κs = search needs
@@ -21,17 +18,17 @@ cast-out c = search needs
 
 mul-out : tie.Need-mul-out
 mul-out c =
-    let s = c .before .before .before .before .before .before .before in
+    let s = c .before .before .before .before .before in
     let a = s .args in
-    let n = generation-narrow (a .d) (a .mem .now) (a .slot .0) (s .pre .1 .0) _ (sym (c .before .before .before .before .load .ensures) ∙ c .before .before .enum-told .given .1) in
-    omega (arith, n, c .before .generation .ensures)
+    let n = generation-narrow (a .d) (a .mem .now) (a .slot .0) (s .pre .1 .0) _ (c .generation .ensures) (sym (c .before .before .is-live .ensures) ∙ c .before .if1 .taken) in
+    omega (arith, n)
 
 add-out : tie.Need-add-out
 add-out c =
-    let s = c .before .before .before .before .before .before .before in
+    let s = c .before .before .before .before .before in
     let a = s .args in
-    let n = generation-narrow (a .d) (a .mem .now) (a .slot .0) (s .pre .1 .0) _ (sym (c .before .before .before .before .load .ensures) ∙ c .before .before .enum-told .given .1) in
-    omega (arith, n, c .before .generation .ensures)
+    let n = generation-narrow (a .d) (a .mem .now) (a .slot .0) (s .pre .1 .0) _ (c .generation .ensures) (sym (c .before .before .is-live .ensures) ∙ c .before .if1 .taken) in
+    omega (arith, n)
 
 mul-out-2 : tie.Need-mul-out-2
 mul-out-2 c = search needs
@@ -47,31 +44,21 @@ same-length c = search needs
 
 returns : tie.Need-returns
 returns c =
-    let s = c .before .before .before .before .before .before .before in
+    let s = c .before .before .before .before .before in
     let a = s .args in
-    slot-live (a .d) (a .mem .now) (a .slot .0) (s .pre .1 .0) (a .out .now) (a .count) _ (c .before .before .before .before .load .ensures) _ (c .before .before .enum-told .given .1) _ (c .before .generation .ensures) (c .if1 .taken) (s .pre .1 .1)
-
-enum-told-2 : tie.Need-enum-told-2
-enum-told-2 c = search needs
+    slot-live (a .d) (a .mem .now) (a .slot .0) (s .pre .1 .0) (a .out .now) (a .count) _ (c .before .before .is-live .ensures) (c .before .if1 .taken) _ (c .generation .ensures) (s .pre .1 .1)
 
 returns-2 : tie.Need-returns-2
 returns-2 c =
-    let s = c .before .before .before .before .before .before .before in
+    let s = c .before .before .before .before in
     let a = s .args in
-    slot-odd (a .d) (a .mem .now) (a .slot .0) (s .pre .1 .0) (a .out .now) (a .count) _ (c .before .before .before .before .load .ensures) _ (c .before .before .enum-told .given .1) _ (c .before .generation .ensures) (c .if1 .left)
-
-returns-3 : tie.Need-returns-3
-returns-3 c =
-    let s = c .before .before .before .before .before in
-    let a = s .args in
-    slot-none (a .d) (a .mem .now) (a .slot .0) (s .pre .1 .0) (a .out .now) (a .count) _ (c .before .before .load .ensures) (c .enum-told2 .given .1)
+    slot-none (a .d) (a .mem .now) (a .slot .0) (s .pre .1 .0) (a .out .now) (a .count) _ (c .before .is-live .ensures) (c .if1 .left)
 
 pub put-live-spec : {M : Type 1} → statement M
 put-live-spec =
     tie.close
     (tie.spec
-    load-requires
-    enum-told
+    is-live-requires
     generation-requires
     cast-out
     mul-out
@@ -81,6 +68,4 @@ put-live-spec =
     add-result
     same-length
     returns
-    enum-told-2
-    returns-2
-    returns-3)
+    returns-2)

@@ -1,35 +1,33 @@
 -- `reading::shown::shows_element` meets its contract.
 -- Assumes nothing.
-use mathlib.Core.Path.{sym, _∙_}
 use native.Mathlib.Omega.{arith}
-use Rattle.reading.proofs.Found.{element-found, element-stale}
+use Rattle.reading.proofs.Found.{live-shown, element-shown, element-stale}
 use borrow.Author.Needs.{needs}
 use Rattle.reading.proofs.shown.shows_element.Statement.{statement}
 use Rattle.reading.proofs.shown.shows_element.Tie as tie
 
-resolve-requires : tie.Need-resolve-requires
-resolve-requires c κs = search needs
+resolves-requires : tie.Need-resolves-requires
+resolves-requires c κs = search needs
 
-enum-known-node : tie.Need-enum-known-node
-enum-known-node c = search needs
+cast-is-element : tie.Need-cast-is-element
+cast-is-element c = search needs
 
-element-requires : tie.Need-element-requires
-element-requires c κs = search needs
-
-enum-told : tie.Need-enum-told
-enum-told c = search needs
+is-element-requires : tie.Need-is-element-requires
+is-element-requires c κs =
+    let s = c .before .before .before in
+    let a = s .args in
+    (s .pre, live-shown (a .d) (a .mem .now) (a .id) (omega arith) (omega arith) _ (c .before .resolves .ensures) (c .if1 .taken))
 
 returns : tie.Need-returns
 returns c =
-    let a = c .before .before .before .before .before .before .args in
-    element-found (a .d) (a .mem .now) (a .id) (omega arith) (omega arith) _ (sym (c .before .before .before .before .resolve .ensures) ∙ c .before .before .node .given .1) _ (c .element .ensures)
+    let a = c .before .before .before .before .args in
+    element-shown (a .d) (a .mem .now) (a .id) (omega arith) (omega arith) _ (c .before .before .resolves .ensures) (c .before .if1 .taken) _ (c .is-element .ensures)
 
 returns-2 : tie.Need-returns-2
 returns-2 c =
-    let a = c .before .before .before .before .args in
-    element-stale (a .d) (a .mem .now) (a .id) (omega arith) (omega arith) (sym (c .before .before .resolve .ensures) ∙ c .enum-told .given .1)
+    let a = c .before .before .before .args in
+    element-stale (a .d) (a .mem .now) (a .id) (omega arith) (omega arith) _ (c .before .resolves .ensures) (c .if1 .left)
 
 pub shows-element-spec : {M : Type 1} → statement M
 shows-element-spec =
-    tie.close
-    (tie.spec resolve-requires enum-known-node element-requires enum-told returns returns-2)
+    tie.close (tie.spec resolves-requires cast-is-element is-element-requires returns returns-2)
