@@ -7,4 +7,3 @@ pub mod Counting
 pub mod Paths
 pub mod Fields
 pub mod Texts
-pub mod Decoded

@@ -6,8 +6,11 @@ ghost use lib.ListN.{length, getD, set};
 ghost use Rattle.model.specs.Doc.{handleAt, liveSlot, resolves, kindIn, parentIn, rangeIn};
 ghost use Rattle.memory.specs.Layout.{memoryOk, whichOf};
 ghost use Rattle.memory.specs.Decode.{blockOf, handleOf, slotOf, slotsMade};
-ghost use Rattle.entries.specs.Nodes.{decodeNodes, wordsHold, recordWord, blockAt, kindNumber, nameNumber, firstSlot, secondSlot};
+ghost use Rattle.entries.specs.Nodes.{decodeNodes, wordsHold, recordWord, kindNumber, nameNumber, firstSlot, secondSlot};
 ghost use Rattle.entries.specs.Marks.{raised};
+use memory::fields::live_block;
+use memory::fields::live_parent;
+use memory::fields::record_word;
 use memory::layout::Arena;
 use memory::layout::Document;
 use memory::read::made;
@@ -38,16 +41,6 @@ pub fn is_current(d: Document, mem: &[u64], handle: u64) -> bool
     } else {
         false
     }
-}
-
-// A word of a slot's record.
-fn record_word(d: Document, mem: &[u64], s: usize, word: usize) -> u64
-    requires { ⌜ (memoryOk d (length (now mem)) ≡ true) × (s < d .limits .nodes) × (word < 12) ⌝ }
-    ensures { λ r. ⌜ r ≡ recordWord d (now (mem .entry)) s word ⌝ }
-{
-    let l = d.limits;
-    let n = l.nodes;
-    mem[n * 2 + s * 12 + word]
 }
 
 // The number of a live slot's kind.
@@ -85,9 +78,7 @@ pub fn parent_of(d: Document, mem: &[u64], s: usize) -> Parent
     requires { ⌜ (memoryOk d (length (now mem)) ≡ true) × (liveSlot (decodeNodes d (now mem)) s ≡ true) ⌝ }
     ensures { λ r. ⌜ handleOf r ≡ parentIn (decodeNodes d (now (mem .entry))) s ⌝ }
 {
-    let word = record_word(d, mem, s, 4);
-    let generation = record_word(d, mem, s, 5);
-    slots::decode::parent_of(word, generation)
+    live_parent(d, mem, s)
 }
 
 // The word that tells the parent of a live slot: its slot, one up, and 0 where there is none.
@@ -98,29 +89,12 @@ pub fn parent_word(d: Document, mem: &[u64], s: usize) -> u64
     record_word(d, mem, s, 4)
 }
 
-// Where the block in an arena stands in a record.
-fn block_at(arena: Arena) -> usize
-    ensures { λ r. ⌜ r ≡ blockAt (whichOf arena) ⌝ }
-{
-    match arena {
-        Arena::Children => 6,
-        Arena::Attributes => 8,
-        Arena::Namespaces => 10,
-    }
-}
-
 // The block of a live slot in an arena, none where its kind has no such list.
 pub fn block_of(d: Document, mem: &[u64], arena: Arena, s: usize) -> Range
     requires { ⌜ (memoryOk d (length (now mem)) ≡ true) × (liveSlot (decodeNodes d (now mem)) s ≡ true) ⌝ }
     ensures { λ r. ⌜ blockOf r ≡ rangeIn (decodeNodes d (now (mem .entry))) (whichOf arena) s ⌝ }
 {
-    let at = block_at(arena);
-    let start = record_word(d, mem, s, at);
-    let len = record_word(d, mem, s, at + 1);
-    Range {
-        start: start as u32,
-        len: len as u32,
-    }
+    live_block(d, mem, s, arena)
 }
 
 // The word of a slot's handle, where rule 1 holds of the slots' words.

@@ -14,7 +14,7 @@ use slots::Parent;
 use slots::Range;
 
 // A word of a slot's record.
-fn record_word(d: Document, mem: &[u64], s: usize, word: usize) -> u64
+pub fn record_word(d: Document, mem: &[u64], s: usize, word: usize) -> u64
     requires { ⌜ (memoryOk d (length (now mem)) ≡ true) × (s < d .limits .nodes) × (word < 12) ⌝ }
     ensures { λ r. ⌜ r ≡ recordWord d (now (mem .entry)) s word ⌝ }
 {
