@@ -1,10 +1,12 @@
 -- Rule 1: the tests of the counts, of the words and of the Root are the rule's.
 -- Assumes nothing.
 use mathlib.Core.Path.{_≡_, refl, sym, ap, ap₂, _∙_}
-use mathlib.Core.Bool.{Bool, true, false, not, _&&_, cond, and-true}
+use mathlib.Core.Bool.{Bool, true, false, not, _&&_, cond, and-true, and-false}
 use mathlib.Core.Option.{none}
 use mathlib.Core.List.{List, []}
-use Prim.Native.Nat.{ℕ, _+_, _*_, _%_, _≤_, _<_}
+use Prim.Native.Nat.{ℕ, _+_, _*_, _/_, _%_, _≤_, _<_}
+use native.Mathlib.Numerals.{add-one}
+use native.Mathlib.Decide.{decLt}
 use native.Mathlib.Omega.{arith}
 use lib.ListN.{length, getD}
 use lib.Seq.{getD-drop}
@@ -18,7 +20,7 @@ use Rattle.slots.specs.Records.{foundNode, nodeOf, isNode}
 use Rattle.slots.specs.Regions.{generationAt, recordAt, nodeAt}
 use Rattle.slots.specs.WordsRule.{wordsRule}
 use Rattle.slots.proofs.WordsRule.{words-rule-of, of-words-rule}
-use Rattle.slots.proofs.Lists.{allBelow-next, allBelow-not, allBelow-same}
+use Rattle.slots.proofs.Lists.{allBelow-same}
 use Rattle.slots.specs.declared.NodeRecord.{NodeRecord}
 use Rattle.slots.specs.declared.Parent.{Parent}
 use Rattle.slots.specs.declared.Parent.the-variants.{None, Of}
@@ -78,19 +80,24 @@ module _ (d : Document) (w : Which) (mem : List ℕ) (start limit used : ℕ)
       (λ i h. ap fitsField (capacity-word i h))
       ∙ ap (allBelow (λ i. fitsField (getD (arenaIn d w mem .caps) i 0))) u
 
-  module _ (i : ℕ) where
-    pub capacity-wide : i < used → 4294967296 ≤ getD mem (start + limit + i) 0 → false ≡ capacitiesFit (decodeNodes d mem) w
-    unfolding fitsAt
-    capacity-wide h g = sym (allBelow-not (fitsAt mem (start + limit)) used i h (le-ltb (getD mem (start + limit + i) 0) 4294967296 g)) ∙ capacities-are
+  pub capacities-all : (i upper : ℕ) → i ≤ used → used ≤ i → eqb upper 0 ≡ allBelow (fitsAt mem (start + limit)) i → eqb upper 0 ≡ capacitiesFit (decodeNodes d mem) w
+  capacities-all i upper a b h =
+      let e : i ≡ used = omega arith in
+      h ∙ ap (allBelow (fitsAt mem (start + limit))) e ∙ capacities-are
 
-    pub capacities-all : i ≤ used → used ≤ i → allBelow (fitsAt mem (start + limit)) i ≡ true → true ≡ capacitiesFit (decodeNodes d mem) w
-    capacities-all a b h =
-        let e : i ≡ used = omega arith in
-        sym (rw e at h) ∙ capacities-are
-
-pub capacity-next : (mem : List ℕ) (start limit i : ℕ) → getD mem (start + limit + i) 0 < 4294967296 → allBelow (fitsAt mem (start + limit)) i ≡ true → allBelow (fitsAt mem (start + limit)) (i + 1) ≡ true
+-- the upper halves so far add up to 0 exactly where all words so far fit
+pub capacity-next : (mem : List ℕ) (at i upper : ℕ) → eqb upper 0 ≡ allBelow (fitsAt mem at) i → eqb (upper + getD mem (at + i) 0 / 4294967296) 0 ≡ allBelow (fitsAt mem at) (i + 1)
 unfolding fitsAt
-capacity-next mem start limit i g h = allBelow-next (fitsAt mem (start + limit)) i h (lt-ltb (getD mem (start + limit + i) 0) 4294967296 g)
+capacity-next mem at i upper h =
+    go (decLt (getD mem (at + i) 0) 4294967296) ∙ ap (λ (t : Bool). t && fitsField (getD mem (at + i) 0)) h ∙ sym (ap (allBelow (fitsAt mem at)) (add-one i))
+  where
+    go : Dec (getD mem (at + i) 0 < 4294967296) → eqb (upper + getD mem (at + i) 0 / 4294967296) 0 ≡ (eqb upper 0 && fitsField (getD mem (at + i) 0))
+    go (yes b) =
+        let z : upper + getD mem (at + i) 0 / 4294967296 ≡ upper = omega arith in
+        ap (λ (n : ℕ). eqb n 0) z ∙ sym (rw (lt-ltb (getD mem (at + i) 0) 4294967296 b) (and-true (eqb upper 0)))
+    go (no b) =
+        ne-eqb (upper + getD mem (at + i) 0 / 4294967296) 0 (λ e. b (omega arith))
+        ∙ sym (rw (le-ltb (getD mem (at + i) 0) 4294967296 (omega arith)) (and-false (eqb upper 0)))
 
 pub arenas-fit : (d : Document) (mem : List ℕ) (a b c p r : Bool) → a ≡ capacitiesFit (decodeNodes d mem) children → b ≡ capacitiesFit (decodeNodes d mem) attributes
     → c ≡ capacitiesFit (decodeNodes d mem) namespaces → p ≡ (a && b) → r ≡ (p && c) → r ≡ arenasFit (decodeNodes d mem)

@@ -53,7 +53,7 @@ fn slots_fit(d: Document, mem: &[u64]) -> bool
     slots::rule::check_words(&mem[0..end], n, made(d))
 }
 
-// Whether the capacities of an arena's entries in use are within their fields.
+// Whether the capacities of an arena's entries in use are within their fields: their upper halves add up to 0, so that no branch stands between the entries.
 fn capacities_fit(d: Document, mem: &[u64], arena: Arena) -> bool
     requires { ⌜ memoryOk d (length (now mem)) ≡ true ⌝ }
     ensures { λ r. ⌜ r ≡ capacitiesFit (decodeNodes d (now (mem .entry))) (whichOf arena) ⌝ }
@@ -61,14 +61,13 @@ fn capacities_fit(d: Document, mem: &[u64], arena: Arena) -> bool
     let start = arena_at(d.limits, arena);
     let limit = arena_limit(d.limits, arena);
     let used = arena_used(d, arena);
+    let mut upper = 0;
     let mut i = 0;
     while i < used {
-        if mem[start + limit + i] >= 4294967296 {
-            return false;
-        }
+        upper += mem[start + limit + i] / 4294967296;
         i += 1;
     }
-    true
+    upper == 0
 }
 
 fn arenas_fit(d: Document, mem: &[u64]) -> bool
