@@ -1,8 +1,11 @@
-// A line is parsed as a whole, and then answered.
-use crate::edit;
-use crate::edit::After;
+// A line is parsed as a whole, then it edits the document, and then its answer is written.
+use crate::buffers::MEMORY;
+use crate::buffers::OUT;
+use crate::buffers::SCRATCH;
+use crate::buffers::TEXTS;
+use crate::edit::Reply;
+use crate::edit::edit;
 use dumping::dump;
-use lines::read::between;
 use memory::layout::Document;
 use parsing::parse::Alone;
 use parsing::parse::LONGEST;
@@ -14,115 +17,98 @@ use printing::sink::put;
 use printing::sink::put_number;
 use slots::NodeId;
 
-fn alone(
-    d: Document,
-    mem: &mut [u64],
-    scratch: &mut [u64],
-    call: Alone,
-    out: &mut [u8],
-    at: usize,
-) -> After {
-    match call {
-        Alone::Root => After {
-            document: d,
-            at: show::root(d, &mem[..], out, at),
-        },
-        Alone::RootElement => After {
-            document: d,
-            at: show::root_element(d, &mem[..], out, at),
-        },
-        Alone::Nodes => After {
-            document: d,
-            at: show::nodes(d, &mem[..], scratch, out, at),
-        },
-        Alone::DocumentOrder => edit::document_order(d, mem, scratch, out, at),
-        Alone::Compact => edit::compact(d, mem, scratch, out, at),
-        Alone::Fresh => edit::restart(d, mem, out, at),
-        Alone::Dump => After {
-            document: d,
-            at: dump::dump(d, &mem[..], out, at),
-        },
-    }
-}
-
-fn shown(d: Document, mem: &[u64], call: OfNode, id: NodeId, out: &mut [u8], at: usize) -> usize {
-    match call {
-        OfNode::Kind => show::kind(d, mem, id, out, at),
-        OfNode::Parent => show::parent(d, mem, id, out, at),
-        OfNode::Children => show::children(d, mem, id, out, at),
-        OfNode::IsElement => show::is_element(d, mem, id, out, at),
-        OfNode::AttributeNodes => show::attribute_nodes(d, mem, id, out, at),
-        OfNode::NamespaceNodes => show::namespace_nodes(d, mem, id, out, at),
-        OfNode::OrderKey => show::order_key(d, mem, id, out, at),
-        OfNode::Ranges => show::ranges(d, mem, id, out, at),
-    }
-}
-
-fn no_call(out: &mut [u8], at: usize, number: u64) -> usize {
+fn no_call(out: &mut [u8; OUT], at: usize, number: u64) -> usize {
     let mark = put(out, at, b"? ");
     let last = put_number(out, mark, number);
     put(out, last, b"\n")
 }
 
-fn call(
+fn shown_alone(
     d: Document,
-    mem: &mut [u64],
-    scratch: &mut [u64],
-    texts: &[u8],
+    mem: &[u64; MEMORY],
+    scratch: &mut [u64; SCRATCH],
+    call: Alone,
+    out: &mut [u8; OUT],
+    at: usize,
+) -> usize {
+    match call {
+        Alone::Root => show::root(d, mem, out, at),
+        Alone::RootElement => show::root_element(d, mem, out, at),
+        Alone::Nodes => show::nodes(d, mem, scratch, out, at),
+        _ => dump::dump(d, mem, out, at),
+    }
+}
+
+// Of the lists of a node.
+fn shown_list(
+    d: Document,
+    mem: &[u64; MEMORY],
+    call: OfNode,
+    id: NodeId,
+    out: &mut [u8; OUT],
+    at: usize,
+) -> usize {
+    match call {
+        OfNode::Children => show::children(d, mem, id, out, at),
+        OfNode::AttributeNodes => show::attribute_nodes(d, mem, id, out, at),
+        OfNode::NamespaceNodes => show::namespace_nodes(d, mem, id, out, at),
+        _ => show::ranges(d, mem, id, out, at),
+    }
+}
+
+fn shown_node(
+    d: Document,
+    mem: &[u64; MEMORY],
+    call: OfNode,
+    id: NodeId,
+    out: &mut [u8; OUT],
+    at: usize,
+) -> usize {
+    match call {
+        OfNode::Kind => show::kind(d, mem, id, out, at),
+        OfNode::Parent => show::parent(d, mem, id, out, at),
+        OfNode::IsElement => show::is_element(d, mem, id, out, at),
+        OfNode::OrderKey => show::order_key(d, mem, id, out, at),
+        _ => shown_list(d, mem, call, id, out, at),
+    }
+}
+
+// A line that is no editing call.
+fn shown(
+    d: Document,
+    mem: &[u64; MEMORY],
+    scratch: &mut [u64; SCRATCH],
     line: Line,
     number: u64,
-    out: &mut [u8],
+    out: &mut [u8; OUT],
     at: usize,
-) -> After {
+) -> usize {
     match line {
-        Line::NoCall => After {
-            document: d,
-            at: no_call(out, at, number),
-        },
-        Line::Alone(what) => alone(d, mem, scratch, what, out, at),
-        Line::OfNode(what, id) => After {
-            document: d,
-            at: shown(d, &mem[..], what, id, out, at),
-        },
-        Line::Name(name) => After {
-            document: d,
-            at: show::name(d, &mem[..], name, out, at),
-        },
-        Line::Limits(limits) => {
-            let size = scratch.len();
-            edit::limits(d, mem, size, limits, out, at)
-        }
-        Line::Remove(id) => edit::remove(d, mem, scratch, id, out, at),
-        Line::Detach(id) => edit::detach(d, mem, scratch, id, out, at),
-        Line::Reparent(id, parent) => edit::reparent(d, mem, scratch, id, parent, out, at),
-        Line::InsertAt(parent, index, child) => {
-            edit::insert_at(d, mem, scratch, parent, index, child, out, at)
-        }
-        Line::WithText(what, id, end) => {
-            edit::with_text(d, mem, scratch, what, id, between(texts, 0, end), out, at)
-        }
-        Line::WithTexts(what, id, first, second) => edit::with_texts(
-            d,
-            mem,
-            scratch,
-            what,
-            id,
-            between(texts, 0, first),
-            between(texts, first, second),
-            out,
-            at,
-        ),
-        Line::SetAttribute(id, first, second, third) => edit::set_attribute(
-            d,
-            mem,
-            scratch,
-            id,
-            between(texts, 0, first),
-            between(texts, first, second),
-            between(texts, second, third),
-            out,
-            at,
-        ),
+        Line::Alone(call) => shown_alone(d, mem, scratch, call, out, at),
+        Line::OfNode(call, id) => shown_node(d, mem, call, id, out, at),
+        Line::Name(name) => show::name(d, mem, name, out, at),
+        _ => no_call(out, at, number),
+    }
+}
+
+// What a line answers; a call that edits nothing shows what it reads.
+fn replied(
+    d: Document,
+    mem: &[u64; MEMORY],
+    scratch: &mut [u64; SCRATCH],
+    line: Line,
+    reply: Reply,
+    number: u64,
+    out: &mut [u8; OUT],
+    at: usize,
+) -> usize {
+    match reply {
+        Reply::Nothing => shown(d, mem, scratch, line, number, out, at),
+        Reply::Done => put(out, at, b"ok\n"),
+        Reply::Made(id) => show::made(out, at, id),
+        Reply::Found(was) => show::truth(out, at, was),
+        Reply::Order => show::order(d, mem, out, at),
+        Reply::Refused(why) => show::refused(out, at, why),
     }
 }
 
@@ -148,30 +134,40 @@ pub struct Session {
     pub long: bool,
 }
 
+// The record after a line, and where what waits to be written ends.
+struct After {
+    document: Document,
+    at: usize,
+}
+
 fn answered(
     d: Document,
-    mem: &mut [u64],
-    scratch: &mut [u64],
-    texts: &mut [u8],
+    mem: &mut [u64; MEMORY],
+    scratch: &mut [u64; SCRATCH],
+    texts: &mut [u8; TEXTS],
     line: &[u8],
     number: u64,
-    out: &mut [u8],
+    out: &mut [u8; OUT],
     at: usize,
 ) -> After {
     if is_silent(line) {
         return After { document: d, at };
     }
     let parsed = parse(line, texts);
-    call(d, mem, scratch, &texts[..], parsed, number, out, at)
+    let edited = edit(d, mem, scratch, texts, parsed);
+    let document = edited.document;
+    let reply = edited.reply;
+    let end = replied(document, mem, scratch, parsed, reply, number, out, at);
+    After { document, at: end }
 }
 
 pub fn answer(
     s: Session,
-    mem: &mut [u64],
-    scratch: &mut [u64],
-    texts: &mut [u8],
+    mem: &mut [u64; MEMORY],
+    scratch: &mut [u64; SCRATCH],
+    texts: &mut [u8; TEXTS],
     line: &[u8],
-    out: &mut [u8],
+    out: &mut [u8; OUT],
 ) -> Session {
     let d = s.document;
     let number = std::num::wrapping_add_u64(s.lines, 1);

@@ -1,22 +1,37 @@
-// The editing calls and the start of a document, each with its answer.
+// The editing calls and the start of a document. What each answers is written after it.
+use crate::buffers::MEMORY;
+use crate::buffers::SCRATCH;
+use crate::buffers::TEXTS;
 use editing::answers::DoneAnswer;
 use editing::answers::FoundAnswer;
 use editing::answers::MadeAnswer;
 use editing::answers::OrderAnswer;
+use lines::read::between;
 use memory::layout::Counts;
 use memory::layout::Document;
 use memory::layout::Limits;
+use model::Refusal;
+use parsing::parse::Alone;
+use parsing::parse::Line;
 use parsing::parse::WithText;
 use parsing::parse::WithTexts;
-use printing::show;
-use printing::sink::put;
 use slots::NodeId;
 use tree::start::StartAnswer;
 
-// The record after a line, and where what waits to be written ends.
+// What a call answers; nothing where the line is no editing call.
+pub enum Reply {
+    Nothing,
+    Done,
+    Made(NodeId),
+    Found(bool),
+    Order,
+    Refused(Refusal),
+}
+
+// The record after a line, and what the line answers.
 pub struct After {
     pub document: Document,
-    pub at: usize,
+    pub reply: Reply,
 }
 
 // A record of nothing: with it the buffers' sizes are tested.
@@ -55,240 +70,200 @@ fn own_limits() -> Limits {
 }
 
 // The document that a list starts with.
-pub fn fresh(mem: &mut [u64]) -> Document {
+pub fn fresh(mem: &mut [u64; MEMORY]) -> Document {
     match tree::start::start(own_limits(), mem) {
         StartAnswer::Started(document) => document,
         StartAnswer::Refused(_) => empty(own_limits()),
     }
 }
 
-fn started(d: Document, answer: StartAnswer, out: &mut [u8], at: usize) -> After {
+fn replied(document: Document, reply: Reply) -> After {
+    After { document, reply }
+}
+
+fn started(d: Document, answer: StartAnswer) -> After {
     match answer {
-        StartAnswer::Started(document) => After {
-            document,
-            at: put(out, at, b"ok\n"),
-        },
-        StartAnswer::Refused(why) => After {
-            document: d,
-            at: show::refused(out, at, why),
-        },
+        StartAnswer::Started(document) => replied(document, Reply::Done),
+        StartAnswer::Refused(why) => replied(d, Reply::Refused(why)),
     }
 }
 
-// Scratch has to fit the limits too, and a document whose limits are refused stays.
-pub fn limits(
-    d: Document,
-    mem: &mut [u64],
-    scratch: usize,
-    limits: Limits,
-    out: &mut [u8],
-    at: usize,
-) -> After {
-    if memory::layout::buffers_ok(empty(limits), mem.len(), scratch) {
-        return started(d, tree::start::start(limits, mem), out, at);
-    }
-    After {
-        document: d,
-        at: put(out, at, b"! 4\n"),
-    }
-}
-
-pub fn restart(d: Document, mem: &mut [u64], out: &mut [u8], at: usize) -> After {
-    started(d, tree::start::start(own_limits(), mem), out, at)
-}
-
-fn done(d: Document, answer: DoneAnswer, out: &mut [u8], at: usize) -> After {
+fn done(d: Document, answer: DoneAnswer) -> After {
     match answer {
-        DoneAnswer::Done(document) => After {
-            document,
-            at: put(out, at, b"ok\n"),
-        },
-        DoneAnswer::Refused(why) => After {
-            document: d,
-            at: show::refused(out, at, why),
-        },
+        DoneAnswer::Done(document) => replied(document, Reply::Done),
+        DoneAnswer::Refused(why) => replied(d, Reply::Refused(why)),
     }
 }
 
-fn made(d: Document, answer: MadeAnswer, out: &mut [u8], at: usize) -> After {
+fn made(d: Document, answer: MadeAnswer) -> After {
     match answer {
         MadeAnswer::Made(new) => {
             let document = new.document;
             let id = new.id;
-            After {
-                document,
-                at: show::made(out, at, id),
-            }
+            replied(document, Reply::Made(id))
         }
-        MadeAnswer::Refused(why) => After {
-            document: d,
-            at: show::refused(out, at, why),
-        },
+        MadeAnswer::Refused(why) => replied(d, Reply::Refused(why)),
     }
 }
 
-fn found(d: Document, answer: FoundAnswer, out: &mut [u8], at: usize) -> After {
+fn found(d: Document, answer: FoundAnswer) -> After {
     match answer {
-        FoundAnswer::Found(document, was) => After {
-            document,
-            at: show::truth(out, at, was),
-        },
-        FoundAnswer::Refused(why) => After {
-            document: d,
-            at: show::refused(out, at, why),
-        },
+        FoundAnswer::Found(document, was) => replied(document, Reply::Found(was)),
+        FoundAnswer::Refused(why) => replied(d, Reply::Refused(why)),
     }
 }
 
-pub fn document_order(
-    d: Document,
-    mem: &mut [u64],
-    scratch: &mut [u64],
-    out: &mut [u8],
-    at: usize,
-) -> After {
-    match ordering::order::document_order(d, mem, scratch) {
-        OrderAnswer::Order(document) => After {
-            document,
-            at: show::order(document, &mem[..], out, at),
-        },
-        OrderAnswer::Refused(why) => After {
-            document: d,
-            at: show::refused(out, at, why),
-        },
+fn ordered(d: Document, answer: OrderAnswer) -> After {
+    match answer {
+        OrderAnswer::Order(document) => replied(document, Reply::Order),
+        OrderAnswer::Refused(why) => replied(d, Reply::Refused(why)),
     }
 }
 
-pub fn compact(
-    d: Document,
-    mem: &mut [u64],
-    scratch: &mut [u64],
-    out: &mut [u8],
-    at: usize,
-) -> After {
-    let answer = ordering::compact::compact(d, mem, scratch);
-    done(d, answer, out, at)
+// Scratch has to fit the limits too, and a document whose limits are refused stays.
+fn limited(d: Document, mem: &mut [u64; MEMORY], limits: Limits) -> After {
+    if memory::layout::buffers_ok(empty(limits), MEMORY, SCRATCH) {
+        return started(d, tree::start::start(limits, mem));
+    }
+    replied(d, Reply::Refused(Refusal::BadBuffers))
 }
 
-pub fn remove(
-    d: Document,
-    mem: &mut [u64],
-    scratch: &mut [u64],
-    id: NodeId,
-    out: &mut [u8],
-    at: usize,
-) -> After {
-    let answer = removing::remove::remove(d, mem, scratch, id);
-    done(d, answer, out, at)
+fn alone(d: Document, mem: &mut [u64; MEMORY], scratch: &mut [u64; SCRATCH], call: Alone) -> After {
+    match call {
+        Alone::DocumentOrder => ordered(d, ordering::order::document_order(d, mem, scratch)),
+        Alone::Compact => done(d, ordering::compact::compact(d, mem, scratch)),
+        Alone::Fresh => started(d, tree::start::start(own_limits(), mem)),
+        _ => replied(d, Reply::Nothing),
+    }
 }
 
-pub fn detach(
+fn with_text(
     d: Document,
-    mem: &mut [u64],
-    scratch: &mut [u64],
-    id: NodeId,
-    out: &mut [u8],
-    at: usize,
-) -> After {
-    let answer = removing::detach::detach(d, mem, scratch, id);
-    done(d, answer, out, at)
-}
-
-pub fn reparent(
-    d: Document,
-    mem: &mut [u64],
-    scratch: &mut [u64],
-    id: NodeId,
-    parent: NodeId,
-    out: &mut [u8],
-    at: usize,
-) -> After {
-    let answer = moving::moves::reparent(d, mem, scratch, id, parent);
-    done(d, answer, out, at)
-}
-
-pub fn insert_at(
-    d: Document,
-    mem: &mut [u64],
-    scratch: &mut [u64],
-    parent: NodeId,
-    index: u64,
-    child: NodeId,
-    out: &mut [u8],
-    at: usize,
-) -> After {
-    let answer = moving::moves::insert_at(d, mem, scratch, parent, index as usize, child);
-    done(d, answer, out, at)
-}
-
-pub fn with_text(
-    d: Document,
-    mem: &mut [u64],
-    scratch: &mut [u64],
+    mem: &mut [u64; MEMORY],
+    scratch: &mut [u64; SCRATCH],
     call: WithText,
     id: NodeId,
     text: &[u8],
-    out: &mut [u8],
-    at: usize,
 ) -> After {
     match call {
-        WithText::AppendText => {
-            let answer = appending::text::append_text(d, mem, scratch, id, text);
-            made(d, answer, out, at)
-        }
-        WithText::AppendComment => {
-            let answer = appending::comment::append_comment(d, mem, scratch, id, text);
-            made(d, answer, out, at)
-        }
-        WithText::SetText => {
-            let answer = changing::text::set_text(d, mem, scratch, id, text);
-            done(d, answer, out, at)
-        }
+        WithText::AppendText => made(d, appending::text::append_text(d, mem, scratch, id, text)),
+        WithText::AppendComment => made(
+            d,
+            appending::comment::append_comment(d, mem, scratch, id, text),
+        ),
+        WithText::SetText => done(d, changing::text::set_text(d, mem, scratch, id, text)),
     }
 }
 
-pub fn with_texts(
+fn with_texts(
     d: Document,
-    mem: &mut [u64],
-    scratch: &mut [u64],
+    mem: &mut [u64; MEMORY],
+    scratch: &mut [u64; SCRATCH],
     call: WithTexts,
     id: NodeId,
     first: &[u8],
     second: &[u8],
-    out: &mut [u8],
-    at: usize,
 ) -> After {
     match call {
-        WithTexts::AppendElement => {
-            let answer = appending::element::append_element(d, mem, scratch, id, first, second);
-            made(d, answer, out, at)
-        }
-        WithTexts::RemoveAttribute => {
-            let answer = removing::attribute::remove_attribute(d, mem, scratch, id, first, second);
-            found(d, answer, out, at)
-        }
-        WithTexts::DeclareNamespace => {
-            let answer = changing::namespace::declare_namespace(d, mem, scratch, id, first, second);
-            made(d, answer, out, at)
-        }
-        WithTexts::AppendPi => {
-            let answer = appending::instruction::append_pi(d, mem, scratch, id, first, second);
-            made(d, answer, out, at)
-        }
+        WithTexts::AppendElement => made(
+            d,
+            appending::element::append_element(d, mem, scratch, id, first, second),
+        ),
+        WithTexts::RemoveAttribute => found(
+            d,
+            removing::attribute::remove_attribute(d, mem, scratch, id, first, second),
+        ),
+        WithTexts::DeclareNamespace => made(
+            d,
+            changing::namespace::declare_namespace(d, mem, scratch, id, first, second),
+        ),
+        WithTexts::AppendPi => made(
+            d,
+            appending::instruction::append_pi(d, mem, scratch, id, first, second),
+        ),
     }
 }
 
-pub fn set_attribute(
+fn set_attribute(
     d: Document,
-    mem: &mut [u64],
-    scratch: &mut [u64],
+    mem: &mut [u64; MEMORY],
+    scratch: &mut [u64; SCRATCH],
     id: NodeId,
     namespace: &[u8],
     local: &[u8],
     value: &[u8],
-    out: &mut [u8],
-    at: usize,
 ) -> After {
-    let answer = changing::attribute::set_attribute(d, mem, scratch, id, namespace, local, value);
-    done(d, answer, out, at)
+    done(
+        d,
+        changing::attribute::set_attribute(d, mem, scratch, id, namespace, local, value),
+    )
+}
+
+// The calls with texts, which lie one behind the other.
+fn edit_texts(
+    d: Document,
+    mem: &mut [u64; MEMORY],
+    scratch: &mut [u64; SCRATCH],
+    texts: &[u8; TEXTS],
+    line: Line,
+) -> After {
+    match line {
+        Line::WithText(call, id, end) => {
+            with_text(d, mem, scratch, call, id, between(texts, 0, end))
+        }
+        Line::WithTexts(call, id, first, second) => with_texts(
+            d,
+            mem,
+            scratch,
+            call,
+            id,
+            between(texts, 0, first),
+            between(texts, first, second),
+        ),
+        Line::SetAttribute(id, first, second, third) => set_attribute(
+            d,
+            mem,
+            scratch,
+            id,
+            between(texts, 0, first),
+            between(texts, first, second),
+            between(texts, second, third),
+        ),
+        _ => replied(d, Reply::Nothing),
+    }
+}
+
+// The calls of a node and of two, and those with texts.
+fn edit_nodes(
+    d: Document,
+    mem: &mut [u64; MEMORY],
+    scratch: &mut [u64; SCRATCH],
+    texts: &[u8; TEXTS],
+    line: Line,
+) -> After {
+    match line {
+        Line::Remove(id) => done(d, removing::remove::remove(d, mem, scratch, id)),
+        Line::Detach(id) => done(d, removing::detach::detach(d, mem, scratch, id)),
+        Line::Reparent(id, parent) => done(d, moving::moves::reparent(d, mem, scratch, id, parent)),
+        Line::InsertAt(parent, index, child) => done(
+            d,
+            moving::moves::insert_at(d, mem, scratch, parent, index as usize, child),
+        ),
+        _ => edit_texts(d, mem, scratch, texts, line),
+    }
+}
+
+// Any line: what is no editing call leaves the document as it is.
+pub fn edit(
+    d: Document,
+    mem: &mut [u64; MEMORY],
+    scratch: &mut [u64; SCRATCH],
+    texts: &[u8; TEXTS],
+    line: Line,
+) -> After {
+    match line {
+        Line::Alone(call) => alone(d, mem, scratch, call),
+        Line::Limits(limits) => limited(d, mem, limits),
+        _ => edit_nodes(d, mem, scratch, texts, line),
+    }
 }

@@ -3,6 +3,10 @@ ghost use Prim.Native.Nat.{_≤_, _<_};
 ghost use lib.ListN.{length};
 use crate::answer::Session;
 use crate::answer::answer;
+use crate::buffers::MEMORY;
+use crate::buffers::OUT;
+use crate::buffers::SCRATCH;
+use crate::buffers::TEXTS;
 use lines::read::find;
 use parsing::parse::LONGEST;
 use printing::sink::flush;
@@ -25,12 +29,12 @@ struct Input {
 // Answers each whole line. No line ends before index scan.
 fn answer_lines(
     s: Session,
-    mem: &mut [u64],
-    scratch: &mut [u64],
-    texts: &mut [u8],
+    mem: &mut [u64; MEMORY],
+    scratch: &mut [u64; SCRATCH],
+    texts: &mut [u8; TEXTS],
     input: &[u8],
     scan: usize,
-    out: &mut [u8],
+    out: &mut [u8; OUT],
 ) -> Progress
     requires { ⌜ scan ≤ length (now input) ⌝ }
     ensures { λ r. ⌜ r .from ≤ length (now (input .entry)) ⌝ }
@@ -75,7 +79,7 @@ fn read_behind(input: &mut [u8], at: usize) -> usize
 }
 
 // Nothing waits to be written any more.
-fn written(s: Session, out: &[u8]) -> Session {
+fn written(s: Session, out: &[u8; OUT]) -> Session {
     flush(out, s.at);
     let document = s.document;
     Session {
@@ -114,13 +118,13 @@ fn left(s: Session, rest: usize) -> Input
 // Answers the lines that end in the first bytes of the input, and moves what is left of them to the front. No line ends before index rest.
 fn answer_read(
     s: Session,
-    mem: &mut [u64],
-    scratch: &mut [u64],
-    texts: &mut [u8],
+    mem: &mut [u64; MEMORY],
+    scratch: &mut [u64; SCRATCH],
+    texts: &mut [u8; TEXTS],
     input: &mut [u8],
     rest: usize,
     to: usize,
-    out: &mut [u8],
+    out: &mut [u8; OUT],
 ) -> Input
     requires { ⌜ (rest ≤ to) × (to ≤ length (now input)) ⌝ }
     ensures { λ r. ⌜ r .rest ≤ length (now (input .entry)) ⌝ }
@@ -134,16 +138,16 @@ fn answer_read(
 // One read, and the lines that end in it. What waits is written first: the read may wait for who reads the answers.
 fn turn(
     t: Input,
-    mem: &mut [u64],
-    scratch: &mut [u64],
-    texts: &mut [u8],
+    mem: &mut [u64; MEMORY],
+    scratch: &mut [u64; SCRATCH],
+    texts: &mut [u8; TEXTS],
     input: &mut [u8],
-    out: &mut [u8],
+    out: &mut [u8; OUT],
 ) -> Input
     requires { ⌜ t .rest ≤ length (now input) ⌝ }
     ensures { λ r. ⌜ r .rest ≤ length (now (input .entry)) ⌝ }
 {
-    let session = written(t.session, &out[..]);
+    let session = written(t.session, out);
     let rest = t.rest;
     let to = read_behind(input, rest);
     if to == rest {
@@ -164,18 +168,18 @@ fn is_line(long: bool, len: usize) -> bool {
 // The last line may end with the input.
 fn last_line(
     s: Session,
-    mem: &mut [u64],
-    scratch: &mut [u64],
-    texts: &mut [u8],
+    mem: &mut [u64; MEMORY],
+    scratch: &mut [u64; SCRATCH],
+    texts: &mut [u8; TEXTS],
     line: &[u8],
-    out: &mut [u8],
+    out: &mut [u8; OUT],
 ) {
     if is_line(s.long, line.len()) {
         let session = answer(s, mem, scratch, texts, line, out);
-        flush(&out[..], session.at);
+        flush(out, session.at);
         return;
     }
-    flush(&out[..], s.at);
+    flush(out, s.at);
 }
 
 // How many turns are left after one: none where no more comes.
@@ -189,11 +193,11 @@ fn turns_left(turns: u64, more: bool) -> u64
 // A proved loop has to end, and nothing says that the input does: the turns count down, from a number that no run uses up.
 fn read_all(
     s: Session,
-    mem: &mut [u64],
-    scratch: &mut [u64],
-    texts: &mut [u8],
+    mem: &mut [u64; MEMORY],
+    scratch: &mut [u64; SCRATCH],
+    texts: &mut [u8; TEXTS],
     input: &mut [u8],
-    out: &mut [u8],
+    out: &mut [u8; OUT],
 ) -> Input
     ensures { λ r. ⌜ r .rest ≤ length (now (input .entry)) ⌝ }
 {
@@ -212,11 +216,11 @@ fn read_all(
 
 pub fn replay(
     s: Session,
-    mem: &mut [u64],
-    scratch: &mut [u64],
-    texts: &mut [u8],
+    mem: &mut [u64; MEMORY],
+    scratch: &mut [u64; SCRATCH],
+    texts: &mut [u8; TEXTS],
     input: &mut [u8],
-    out: &mut [u8],
+    out: &mut [u8; OUT],
 ) {
     let t = read_all(s, mem, scratch, texts, input, out);
     let rest = t.rest;

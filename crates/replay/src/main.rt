@@ -1,17 +1,22 @@
 // Reads call lists from standard input and writes their answers: docs/CALLS.md.
 mod answer;
+mod buffers;
 mod edit;
 mod input;
 
 use answer::Session;
+use buffers::INPUT;
+use buffers::MEMORY;
+use buffers::OUT;
+use buffers::SCRATCH;
+use buffers::TEXTS;
 
-// The buffers fit the program's own limits (`edit::own_limits`) and no more; the texts of a line take half of it at most.
 fn main() {
-    let mut mem = [0u64; 171008];
-    let mut scratch = [0u64; 36864];
-    let mut texts = [0u8; 131072];
-    let mut bytes = [0u8; 524288];
-    let mut out = [0u8; 65536];
+    let mut mem = [0u64; MEMORY];
+    let mut scratch = [0u64; SCRATCH];
+    let mut texts = [0u8; TEXTS];
+    let mut bytes = [0u8; INPUT];
+    let mut out = [0u8; OUT];
     let session = Session {
         document: edit::fresh(&mut mem),
         at: 0,

@@ -1,14 +1,13 @@
 -- `replay::input::answer_lines` is safe and ends.
 -- Assumes nothing.
 use borrow.Author.Needs.{needs}
-use mathlib.Core.Path.{_≡_}
 use lib.ListN.{length}
 use Prim.Native.Nat.{_+_, _-_, _≤_, _<_}
 use Rattle.replay.proofs.input.answer_lines.Statement.{statement}
 use Rattle.replay.proofs.input.answer_lines.Tie as tie
 
 abbrev Inv-loop : tie.InvT-loop
-Inv-loop mem₀ scratch₀ texts₀ input scan out₀ session₀ from₀ end₀ mem scratch texts out session from end = (from ≤ end) × (end ≤ length input) × (length mem ≡ length mem₀) × (length scratch ≡ length scratch₀) × (length texts ≡ length texts₀) × (length out ≡ length out₀)
+Inv-loop mem₀ scratch₀ texts₀ input scan out₀ session₀ from₀ end₀ mem scratch texts out session from end = (from ≤ end) × (end ≤ length input)
 
 abbrev μ-loop : tie.MeasureT-loop
 μ-loop mem₀ scratch₀ texts₀ input scan out₀ session₀ from₀ end₀ mem scratch texts out session from end = length input - end
@@ -43,18 +42,6 @@ loop-less c = search needs
 loop-again : tie.Need-loop-again Inv-loop μ-loop
 loop-again c = search needs
 
-same-length : tie.Need-same-length Inv-loop μ-loop
-same-length c = search needs
-
-same-length-2 : tie.Need-same-length-2 Inv-loop μ-loop
-same-length-2 c = search needs
-
-same-length-3 : tie.Need-same-length-3 Inv-loop μ-loop
-same-length-3 c = search needs
-
-same-length-4 : tie.Need-same-length-4 Inv-loop μ-loop
-same-length-4 c = search needs
-
 returns : tie.Need-returns Inv-loop μ-loop
 returns c = search needs
 
@@ -74,8 +61,4 @@ answer-lines-spec =
     find-requires-2
     loop-less
     loop-again
-    same-length
-    same-length-2
-    same-length-3
-    same-length-4
     returns)

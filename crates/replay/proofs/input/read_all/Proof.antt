@@ -8,7 +8,7 @@ use Rattle.replay.proofs.input.read_all.Statement.{statement}
 use Rattle.replay.proofs.input.read_all.Tie as tie
 
 abbrev Inv-loop : tie.InvT-loop
-Inv-loop mem₀ scratch₀ texts₀ input₀ out₀ t₀ turns₀ mem scratch texts input out t turns = (t .rest ≤ length input) × (length input ≡ length input₀) × (length mem ≡ length mem₀) × (length scratch ≡ length scratch₀) × (length texts ≡ length texts₀) × (length out ≡ length out₀)
+Inv-loop mem₀ scratch₀ texts₀ input₀ out₀ t₀ turns₀ mem scratch texts input out t turns = (t .rest ≤ length input) × (length input ≡ length input₀)
 
 abbrev μ-loop : tie.MeasureT-loop
 μ-loop mem₀ scratch₀ texts₀ input₀ out₀ t₀ turns₀ mem scratch texts input out t turns = turns
@@ -31,18 +31,6 @@ loop-again c = search needs
 same-length : tie.Need-same-length Inv-loop μ-loop
 same-length c = search needs
 
-same-length-2 : tie.Need-same-length-2 Inv-loop μ-loop
-same-length-2 c = search needs
-
-same-length-3 : tie.Need-same-length-3 Inv-loop μ-loop
-same-length-3 c = search needs
-
-same-length-4 : tie.Need-same-length-4 Inv-loop μ-loop
-same-length-4 c = search needs
-
-same-length-5 : tie.Need-same-length-5 Inv-loop μ-loop
-same-length-5 c = search needs
-
 returns : tie.Need-returns Inv-loop μ-loop
 returns c = search needs
 
@@ -58,8 +46,4 @@ read-all-spec =
     loop-less
     loop-again
     same-length
-    same-length-2
-    same-length-3
-    same-length-4
-    same-length-5
     returns)
