@@ -1,6 +1,9 @@
 -- `slots::decode::are_ranges` meets its contract.
 -- Assumes nothing.
 use Rattle.slots.specs.Records.{areRanges}
+use mathlib.Core.Path.{_∙_}
+use mathlib.Core.Bool.{_&&_}
+use Rattle.slots.specs.Records.{isSpan}
 use borrow.Author.Needs.{needs}
 use Rattle.slots.proofs.decode.are_ranges.Statement.{statement}
 use Rattle.slots.proofs.decode.are_ranges.Tie as tie
@@ -25,7 +28,7 @@ both-requires-2 c κs = search needs
 
 returns : tie.Need-returns
 unfolding areRanges
-returns c = cc
+returns c = let words = c .before .before .before .before .before .before .args .words in c .both2 .ensures ∙ (λ i. (c .before .before .before .before .span-fits .ensures ∙ (λ j. isSpan (c .before .before .before .before .before .has-children .ensures j) (words .children))) i && (c .before .both .ensures ∙ (λ j. c .before .before .before .span-fits2 .ensures j && c .before .before .span-fits3 .ensures j)) i)
 
 pub are-ranges-spec : {M : Type 1} → statement M
 are-ranges-spec =

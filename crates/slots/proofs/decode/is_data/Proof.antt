@@ -1,6 +1,10 @@
 -- `slots::decode::is_data` meets its contract.
 -- Assumes nothing.
 use Rattle.slots.specs.Records.{isData}
+use mathlib.Core.Path.{_∙_}
+use mathlib.Core.Bool.{_&&_}
+use lib.Dec.{leb}
+use Rattle.slots.specs.Records.{most}
 use borrow.Author.Needs.{needs}
 use Rattle.slots.proofs.decode.is_data.Statement.{statement}
 use Rattle.slots.proofs.decode.is_data.Tie as tie
@@ -28,7 +32,7 @@ both-requires-3 c κs = search needs
 
 returns : tie.Need-returns
 unfolding isData
-returns c = cc
+returns c = let words = c .before .before .before .before .before .before .before .args .words in c .both3 .ensures ∙ (λ i. leb (words .kind) 6 && (c .before .both2 .ensures ∙ (λ j. (c .before .before .before .before .before .fits2 .ensures ∙ (λ k. leb (words .name) (most (c .before .before .before .before .before .before .has-name .ensures k) 4294967295))) j && (c .before .before .both .ensures ∙ (λ k. c .before .before .before .before .fits3 .ensures k && c .before .before .before .fits4 .ensures k)) j)) i)
 
 pub is-data-spec : {M : Type 1} → statement M
 is-data-spec =

@@ -1,6 +1,8 @@
 -- `slots::decode::is_node` meets its contract.
 -- Assumes nothing.
 use Rattle.slots.specs.Records.{isNode}
+use mathlib.Core.Path.{_∙_}
+use mathlib.Core.Bool.{_&&_}
 use borrow.Author.Needs.{needs}
 use Rattle.slots.proofs.decode.is_node.Statement.{statement}
 use Rattle.slots.proofs.decode.is_node.Tie as tie
@@ -22,7 +24,7 @@ both-requires-2 c κs = search needs
 
 returns : tie.Need-returns
 unfolding isNode
-returns c = cc
+returns c = c .both2 .ensures ∙ (λ i. c .before .before .before .before .is-data .ensures i && (c .before .both .ensures ∙ (λ j. c .before .before .before .is-parent .ensures j && c .before .before .are-ranges .ensures j)) i)
 
 pub is-node-spec : {M : Type 1} → statement M
 is-node-spec =

@@ -1,6 +1,9 @@
 -- `slots::decode::is_parent` meets its contract.
 -- Assumes nothing.
 use Rattle.slots.specs.Records.{isParent}
+use mathlib.Core.Path.{_∙_}
+use mathlib.Core.Bool.{_&&_}
+use lib.Dec.{leb}
 use borrow.Author.Needs.{needs}
 use Rattle.slots.proofs.decode.is_parent.Statement.{statement}
 use Rattle.slots.proofs.decode.is_parent.Tie as tie
@@ -13,7 +16,7 @@ both-requires c κs = search needs
 
 returns : tie.Need-returns
 unfolding isParent
-returns c = cc
+returns c = let words = c .before .before .args .words in c .both .ensures ∙ (λ i. leb (words .parent) 4294967296 && c .before .fits2 .ensures i)
 
 pub is-parent-spec : {M : Type 1} → statement M
 is-parent-spec = tie.close (tie.spec fits-requires both-requires returns)

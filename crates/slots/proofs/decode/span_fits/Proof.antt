@@ -1,6 +1,8 @@
 -- `slots::decode::span_fits` meets its contract.
 -- Assumes nothing.
 use Rattle.slots.specs.Records.{isSpan}
+use mathlib.Core.Path.{_∙_}
+use mathlib.Core.Bool.{_&&_}
 use borrow.Author.Needs.{needs}
 use Rattle.slots.proofs.decode.span_fits.Statement.{statement}
 use Rattle.slots.proofs.decode.span_fits.Tie as tie
@@ -16,7 +18,7 @@ both-requires c κs = search needs
 
 returns : tie.Need-returns
 unfolding isSpan
-returns c = cc
+returns c = c .both .ensures ∙ (λ i. c .before .before .fits2 .ensures i && c .before .fits3 .ensures i)
 
 pub span-fits-spec : {M : Type 1} → statement M
 span-fits-spec = tie.close (tie.spec fits-requires fits-requires-2 both-requires returns)
