@@ -134,6 +134,34 @@ fn put_block(
     put(out, last, b"]")
 }
 
+fn put_element_blocks(
+    d: Document,
+    mem: &[u64],
+    attributes: Range,
+    namespaces: Range,
+    out: &mut [u8],
+    at: usize,
+) -> usize {
+    let first = put_block(
+        d,
+        mem,
+        Arena::Attributes,
+        b" attributes=",
+        attributes,
+        out,
+        at,
+    );
+    put_block(
+        d,
+        mem,
+        Arena::Namespaces,
+        b" namespaces=",
+        namespaces,
+        out,
+        first,
+    )
+}
+
 fn put_blocks(d: Document, mem: &[u64], node: Node, out: &mut [u8], at: usize) -> usize {
     let children = put_block(
         d,
@@ -150,32 +178,8 @@ fn put_blocks(d: Document, mem: &[u64], node: Node, out: &mut [u8], at: usize) -
             name: _,
             attributes,
             namespaces,
-        } => {
-            let first = put_block(
-                d,
-                mem,
-                Arena::Attributes,
-                b" attributes=",
-                attributes,
-                out,
-                children,
-            );
-            put_block(
-                d,
-                mem,
-                Arena::Namespaces,
-                b" namespaces=",
-                namespaces,
-                out,
-                first,
-            )
-        }
-        NodeData::Root => children,
-        NodeData::Attr { .. } => children,
-        NodeData::Text(_) => children,
-        NodeData::Comment(_) => children,
-        NodeData::Namespace { .. } => children,
-        NodeData::ProcessingInstruction { .. } => children,
+        } => put_element_blocks(d, mem, attributes, namespaces, out, children),
+        _ => children,
     }
 }
 

@@ -1,7 +1,6 @@
 // What the calls answered, compared with what they must answer.
 use crate::calls::After;
 use crate::calls::MEMORY;
-use crate::cases::digit;
 use memory::layout::Arena;
 use reading::answers::KeyAnswer;
 use reading::answers::ListAnswer;
@@ -28,6 +27,11 @@ fn made(after: After, index: u32, generation: u32) -> bool {
         id.index == index,
         id.generation == generation,
     )
+}
+
+// A digit, or what follows the digits in ASCII, as a number.
+pub fn digit(byte: u8) -> u8 {
+    if byte < 48 { 0 } else { byte - 48 }
 }
 
 // Whether the call answered the handle that two digits give; where no handle is due, whether it has the number of the second.

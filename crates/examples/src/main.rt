@@ -1,10 +1,7 @@
-// Document 01's bench examples through the public calls, and outside vectors for the characters, each compared with what it must be. Every group of them writes a line.
+// Document 01's bench examples through the public calls, each compared with what it must be. Every example writes a line.
 mod calls; // calls.rt: the calls, one behind the other
-mod cases; // cases.rt: cases by their number
-mod characters; // characters.rt: UTF-8, the productions, names and texts
 mod checks; // checks.rt: what is compared
 mod documents; // documents.rt: examples 1 to 8, and the order after a slot was taken again
-mod ends; // ends.rt: the ends of the productions' ranges
 mod report; // report.rt: what is written
 mod steps; // steps.rt: calls and comparisons as data
 mod strings; // strings.rt: examples 9 to 12
@@ -12,7 +9,6 @@ mod strings; // strings.rt: examples 9 to 12
 use crate::report::say;
 
 fn main() {
-    characters::run();
     say(b"example 1", documents::ranges());
     say(b"example 2", documents::reused());
     say(b"example 3", documents::indexes());

@@ -5,12 +5,11 @@ use crate::calls::append;
 use crate::calls::declare;
 use crate::calls::handle;
 use crate::calls::start;
-use crate::cases::Kind;
-use crate::cases::agree;
+use crate::checks::all;
 use crate::checks::both;
 
 // The number that a call under the Root is refused with: 0 for none.
-pub fn number(call: u8, s: &[u8]) -> u8 {
+fn number(call: u8, s: &[u8]) -> u8 {
     let mut mem = [0u64; MEMORY];
     let mut scratch = [0u64; SCRATCH];
     let fresh = start(&mut mem);
@@ -26,7 +25,7 @@ pub fn number(call: u8, s: &[u8]) -> u8 {
 }
 
 // The number that a call of the element under the Root is refused with.
-pub fn number_of_element(call: u8, s: &[u8]) -> u8 {
+fn number_of_element(call: u8, s: &[u8]) -> u8 {
     let mut mem = [0u64; MEMORY];
     let mut scratch = [0u64; SCRATCH];
     let fresh = start(&mut mem);
@@ -38,34 +37,56 @@ pub fn number_of_element(call: u8, s: &[u8]) -> u8 {
 
 // Example 9.
 pub fn names() -> bool {
-    agree(
-        Kind::Call(b'e'),
-        b"2022\x31a23a:b22\xC3\x9722\xCD\xBE03a-102\xC3\xA903a\xC2\xB7",
+    both(names_refused(), names_accepted())
+}
+
+fn names_refused() -> bool {
+    let ascii = all(
+        number(b'e', b"") == 2,
+        number(b'e', b"1a") == 2,
+        number(b'e', b"a:b") == 2,
+    );
+    let wide = both(
+        number(b'e', b"\xC3\x97") == 2,
+        number(b'e', b"\xCD\xBE") == 2,
+    );
+    both(ascii, wide)
+}
+
+fn names_accepted() -> bool {
+    all(
+        number(b'e', b"a-1") == 0,
+        number(b'e', b"\xC3\xA9") == 0,
+        number(b'e', b"a\xC2\xB7") == 0,
     )
 }
 
 // Example 10.
 pub fn root_texts() -> bool {
-    agree(Kind::Call(b't'), b"0001\x0931a31\x0D")
+    let accepted = both(number(b't', b"") == 0, number(b't', b"\x09") == 0);
+    let refused = both(number(b't', b"a") == 3, number(b't', b"\x0D") == 3);
+    both(accepted, refused)
 }
 
 // Example 11.
 pub fn declarations() -> bool {
     let attributes = both(
-        agree(Kind::CallOfElement(b'a'), b"25xmlns"),
-        agree(Kind::CallOfElement(b'u'), b"05xmlns"),
+        number_of_element(b'a', b"xmlns") == 2,
+        number_of_element(b'u', b"xmlns") == 0,
     );
     let prefixes = both(
-        agree(Kind::CallOfElement(b'n'), b"23xml"),
-        agree(Kind::CallOfElement(b'v'), b"01p"),
+        number_of_element(b'n', b"xml") == 2,
+        number_of_element(b'v', b"p") == 0,
     );
     both(attributes, prefixes)
 }
 
 // Example 12.
 pub fn comments() -> bool {
-    both(
-        agree(Kind::Call(b'c'), b"32a-34a--b02-a"),
-        agree(Kind::Call(b'p'), b"23XmL"),
-    )
+    let comments = all(
+        number(b'c', b"a-") == 3,
+        number(b'c', b"a--b") == 3,
+        number(b'c', b"-a") == 0,
+    );
+    both(comments, number(b'p', b"XmL") == 2)
 }

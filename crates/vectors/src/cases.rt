@@ -1,9 +1,8 @@
-// Cases by their number: what each check and each call must answer.
-use crate::strings;
+// Cases by their number: what each check must answer.
 use chars::Check;
 use chars::names as rules;
 
-// Which check, or which call in a fresh document, a case is for. A call has its letter.
+// Which check a case is for.
 pub enum Kind {
     Utf8,
     Name,
@@ -18,8 +17,6 @@ pub enum Kind {
     Comment,
     Target,
     PiData,
-    Call(u8),
-    CallOfElement(u8),
 }
 
 // Document 01's number of an answer.
@@ -84,13 +81,11 @@ fn number(kind: Kind, s: &[u8]) -> u8 {
         Kind::Comment => number_of(rules::check_comment(s)),
         Kind::Target => number_of(rules::check_pi(s, b"")),
         Kind::PiData => number_of(rules::check_pi(b"p", s)),
-        Kind::Call(call) => strings::number(call, s),
-        Kind::CallOfElement(call) => strings::number_of_element(call, s),
     }
 }
 
 // A digit, or what follows the digits in ASCII, as a number.
-pub fn digit(byte: u8) -> u8 {
+fn digit(byte: u8) -> u8 {
     if byte < 48 { 0 } else { byte - 48 }
 }
 

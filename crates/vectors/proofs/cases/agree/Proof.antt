@@ -1,10 +1,10 @@
--- `examples::cases::agree` is safe and ends.
+-- `vectors::cases::agree` is safe and ends.
 -- Assumes nothing.
 use Prim.Native.Nat.{_≤_, _-_}
 use lib.ListN.{length}
 use borrow.Author.Needs.{needs}
-use Rattle.examples.proofs.cases.agree.Statement.{statement}
-use Rattle.examples.proofs.cases.agree.Tie as tie
+use Rattle.vectors.proofs.cases.agree.Statement.{statement}
+use Rattle.vectors.proofs.cases.agree.Tie as tie
 
 abbrev Inv-loop : tie.InvT-loop
 Inv-loop kind cases i₀ i = i ≤ length cases

@@ -1,10 +1,10 @@
--- `examples::characters::all_answer` is safe and ends.
+-- `vectors::characters::all_answer` is safe and ends.
 -- Assumes nothing.
 use Prim.Native.Nat.{_≤_, _-_}
 use lib.ListN.{length}
 use borrow.Author.Needs.{needs}
-use Rattle.examples.proofs.characters.all_answer.Statement.{statement}
-use Rattle.examples.proofs.characters.all_answer.Tie as tie
+use Rattle.vectors.proofs.characters.all_answer.Statement.{statement}
+use Rattle.vectors.proofs.characters.all_answer.Tie as tie
 
 abbrev Inv-loop : tie.InvT-loop
 Inv-loop test right codes i₀ i = i ≤ length codes

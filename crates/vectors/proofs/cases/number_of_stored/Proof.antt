@@ -1,4 +1,4 @@
--- `examples::cases::number_of_stored` is safe and ends.
+-- `vectors::cases::number_of_stored` is safe and ends.
 -- Assumes nothing.
 use mathlib.Core.Path.{_≡_, sym}
 use Prim.Native.Nat.{_≤_, _-_}
@@ -6,8 +6,8 @@ use native.Mathlib.Omega.{arith}
 use lib.ListN.{length}
 use lib.Seq.{length-take-le}
 use borrow.Author.Needs.{needs}
-use Rattle.examples.proofs.cases.number_of_stored.Statement.{statement}
-use Rattle.examples.proofs.cases.number_of_stored.Tie as tie
+use Rattle.vectors.proofs.cases.number_of_stored.Statement.{statement}
+use Rattle.vectors.proofs.cases.number_of_stored.Tie as tie
 
 abbrev Inv-loop : tie.InvT-loop
 Inv-loop s words₀ n₀ words n = (n ≤ 16) × (length words ≡ 16)
