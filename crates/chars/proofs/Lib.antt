@@ -4,9 +4,5 @@ pub mod Steps
 pub mod Turns
 pub mod Rows
 pub mod Decoding
-pub mod Passes
-pub mod Rules
 pub mod Ascii
-pub mod Verdicts
-pub mod Spelling
 pub mod Encoding

@@ -1,8 +1,6 @@
-// Characters and names: what names, texts, comments, processing instructions, prefixes and URIs may be. It sees no tree.
-mod scan; // scan.rt: one pass over a text by a rule
+// Characters: UTF-8, XML's characters and their classes, and what the productions over them answer.
 mod table; // table.rt: the classes of the code points below 2,048
-pub mod names; // names.rt: the checks
-mod utf8; // utf8.rt: one step of decoding
+pub mod utf8; // utf8.rt: one step of decoding
 pub mod xml; // xml.rt: Char and the class of a code point
 
 // What a check answers.

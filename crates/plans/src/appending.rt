@@ -56,7 +56,7 @@ fn check_append_comment(d: Document, mem: &[u64], parent: NodeId, text: &[u8]) -
 {
     let place = first(not_utf8(text), container(d, mem, parent));
     if is_accepted(place) {
-        of_check(chars::names::check_comment(text))
+        of_check(productions::names::check_comment(text))
     } else {
         place
     }
@@ -98,7 +98,7 @@ fn check_append_pi(
 {
     let place = first(two_not_utf8(target, content), container(d, mem, parent));
     if is_accepted(place) {
-        of_check(chars::names::check_pi(target, content))
+        of_check(productions::names::check_pi(target, content))
     } else {
         place
     }

@@ -14,14 +14,14 @@ use model::Refusal;
 pub fn not_utf8(text: &[u8]) -> Verdict
     ensures { λ r. ⌜ verdictNumber r ≡ notUtf8 (now (text .entry) ∷ []) ⌝ }
 {
-    refuse_if(!chars::names::is_utf8(text), Refusal::NotUtf8)
+    refuse_if(!productions::names::is_utf8(text), Refusal::NotUtf8)
 }
 
 // The first of two that isn't.
 pub fn two_not_utf8(a: &[u8], b: &[u8]) -> Verdict
     ensures { λ r. ⌜ verdictNumber r ≡ notUtf8 (now (a .entry) ∷ now (b .entry) ∷ []) ⌝ }
 {
-    if chars::names::is_utf8(a) {
+    if productions::names::is_utf8(a) {
         not_utf8(b)
     } else {
         Verdict::Refused(Refusal::NotUtf8)
@@ -33,7 +33,10 @@ fn not_space(under_root: bool, text: &[u8]) -> Verdict
     ensures { λ r. ⌜ verdictNumber r ≡ refuseIf («under_root» && not (spaceOnly (now (text .entry)))) 3 ⌝ }
 {
     if under_root {
-        refuse_if(!chars::names::is_white_space(text), Refusal::InvalidText)
+        refuse_if(
+            !productions::names::is_white_space(text),
+            Refusal::InvalidText,
+        )
     } else {
         Verdict::Accepted
     }
@@ -43,7 +46,7 @@ fn not_space(under_root: bool, text: &[u8]) -> Verdict
 pub fn text_under(under_root: bool, text: &[u8]) -> Verdict
     ensures { λ r. ⌜ verdictNumber r ≡ textUnder «under_root» (now (text .entry)) ⌝ }
 {
-    let checked = of_check(chars::names::check_text(text));
+    let checked = of_check(productions::names::check_text(text));
     first(checked, not_space(under_root, text))
 }
 
@@ -51,14 +54,17 @@ pub fn text_under(under_root: bool, text: &[u8]) -> Verdict
 pub fn check_name(namespace: &[u8], local: &[u8]) -> Verdict
     ensures { λ r. ⌜ verdictNumber r ≡ first (nameCheck (now (local .entry))) (namespaceCheck (now (namespace .entry))) ⌝ }
 {
-    let named = refuse_if(!chars::names::is_ncname(local), Refusal::InvalidName);
-    first(named, of_check(chars::names::check_namespace(namespace)))
+    let named = refuse_if(!productions::names::is_ncname(local), Refusal::InvalidName);
+    first(
+        named,
+        of_check(productions::names::check_namespace(namespace)),
+    )
 }
 
 pub fn three_not_utf8(a: &[u8], b: &[u8], c: &[u8]) -> Verdict
     ensures { λ r. ⌜ verdictNumber r ≡ notUtf8 (now (a .entry) ∷ now (b .entry) ∷ now (c .entry) ∷ []) ⌝ }
 {
-    if chars::names::is_utf8(a) {
+    if productions::names::is_utf8(a) {
         two_not_utf8(b, c)
     } else {
         Verdict::Refused(Refusal::NotUtf8)
@@ -69,8 +75,11 @@ pub fn three_not_utf8(a: &[u8], b: &[u8], c: &[u8]) -> Verdict
 pub fn check_binding(prefix: &[u8], uri: &[u8]) -> Verdict
     ensures { λ r. ⌜ verdictNumber r ≡ first (prefixCheck (now (prefix .entry))) (bindingCheck (now (uri .entry))) ⌝ }
 {
-    let named = of_check(chars::names::check_prefix(prefix));
-    first(named, of_check(chars::names::check_namespace_binding(uri)))
+    let named = of_check(productions::names::check_prefix(prefix));
+    first(
+        named,
+        of_check(productions::names::check_namespace_binding(uri)),
+    )
 }
 
 // No attribute without a namespace is called xmlns.
@@ -78,7 +87,7 @@ fn not_xmlns(namespace: &[u8], local: &[u8]) -> Verdict
     ensures { λ r. ⌜ verdictNumber r ≡ refuseIf (isEmpty (now (namespace .entry)) && isXmlns (now (local .entry))) 2 ⌝ }
 {
     if namespace.len() == 0 {
-        refuse_if(chars::names::is_xmlns(local), Refusal::InvalidName)
+        refuse_if(productions::names::is_xmlns(local), Refusal::InvalidName)
     } else {
         Verdict::Accepted
     }
@@ -88,13 +97,13 @@ fn not_xmlns(namespace: &[u8], local: &[u8]) -> Verdict
 fn check_value(value: &[u8], local: &[u8], found: bool) -> Verdict
     ensures { λ r. ⌜ verdictNumber r ≡ first (textCheck (now (value .entry))) (cond found 0 (nameCheck (now (local .entry)))) ⌝ }
 {
-    let checked = of_check(chars::names::check_text(value));
+    let checked = of_check(productions::names::check_text(value));
     if found {
         first(checked, Verdict::Accepted)
     } else {
         first(
             checked,
-            refuse_if(!chars::names::is_ncname(local), Refusal::InvalidName),
+            refuse_if(!productions::names::is_ncname(local), Refusal::InvalidName),
         )
     }
 }
@@ -103,7 +112,7 @@ fn check_value(value: &[u8], local: &[u8], found: bool) -> Verdict
 pub fn check_attribute(namespace: &[u8], local: &[u8], value: &[u8], found: bool) -> Verdict
     ensures { λ r. ⌜ verdictNumber r ≡ first (namespaceCheck (now (namespace .entry))) (first (refuseIf (isEmpty (now (namespace .entry)) && isXmlns (now (local .entry))) 2) (first (textCheck (now (value .entry))) (cond found 0 (nameCheck (now (local .entry)))))) ⌝ }
 {
-    let named = of_check(chars::names::check_namespace(namespace));
+    let named = of_check(productions::names::check_namespace(namespace));
     let rest = first(
         not_xmlns(namespace, local),
         check_value(value, local, found),

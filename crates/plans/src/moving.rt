@@ -51,7 +51,7 @@ fn stored_space(under_root: bool, text: &[u64]) -> Verdict
 {
     if under_root {
         refuse_if(
-            !chars::names::is_white_space_words(text),
+            !productions::names::is_white_space_words(text),
             Refusal::InvalidText,
         )
     } else {
@@ -63,7 +63,7 @@ fn stored_space(under_root: bool, text: &[u64]) -> Verdict
 fn moved_text(under_root: bool, text: &[u64]) -> Verdict
     ensures { λ r. ⌜ verdictNumber r ≡ movedText «under_root» (some (now (text .entry))) ⌝ }
 {
-    match chars::names::check_text_words(text) {
+    match productions::names::check_text_words(text) {
         Check::Passed => stored_space(under_root, text),
         Check::NotUtf8 => Verdict::Refused(Refusal::InvalidText),
         Check::InvalidName => Verdict::Refused(Refusal::InvalidText),

@@ -5,8 +5,8 @@ use crate::cases::number_of;
 use crate::cases::unless;
 use crate::ends;
 use crate::report::say;
-use chars::names as rules;
 use chars::xml;
+use productions::names as rules;
 
 fn group(name: &[u8], kind: Kind, cases: &[u8]) {
     say(name, agree(kind, cases));

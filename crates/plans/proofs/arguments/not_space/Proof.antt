@@ -4,7 +4,7 @@ use Rattle.plans.proofs.Bytes.{space-only}
 use borrow.Author.Needs.{needs}
 use Rattle.plans.proofs.arguments.not_space.Statement.{statement}
 use Rattle.plans.proofs.arguments.not_space.Tie as tie
-use Rattle.chars.proofs.names.is_white_space.Reads as is-white-space-reads
+use Rattle.productions.proofs.names.is_white_space.Reads as is-white-space-reads
 use Rattle.plans.proofs.verdict.refuse_if.Reads as refuse-if-reads
 
 is-white-space-requires : tie.Need-is-white-space-requires

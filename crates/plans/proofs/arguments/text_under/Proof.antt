@@ -4,7 +4,7 @@ use Rattle.plans.proofs.Bytes.{text-checked}
 use borrow.Author.Needs.{needs}
 use Rattle.plans.proofs.arguments.text_under.Statement.{statement}
 use Rattle.plans.proofs.arguments.text_under.Tie as tie
-use Rattle.chars.proofs.names.check_text.Reads as check-text-reads
+use Rattle.productions.proofs.names.check_text.Reads as check-text-reads
 use Rattle.plans.proofs.arguments.not_space.Reads as not-space-reads
 use Rattle.plans.proofs.verdict.first.Reads as first-reads
 use Rattle.plans.proofs.verdict.of_check.Reads as of-check-reads

@@ -5,7 +5,7 @@ use Rattle.plans.proofs.Bytes.{utf8-first, utf8-refused}
 use borrow.Author.Needs.{needs}
 use Rattle.plans.proofs.arguments.two_not_utf8.Statement.{statement}
 use Rattle.plans.proofs.arguments.two_not_utf8.Tie as tie
-use Rattle.chars.proofs.names.is_utf8.Reads as is-utf8-reads
+use Rattle.productions.proofs.names.is_utf8.Reads as is-utf8-reads
 use Rattle.plans.proofs.arguments.not_utf8.Reads as not-utf8-reads
 
 is-utf8-requires : tie.Need-is-utf8-requires
