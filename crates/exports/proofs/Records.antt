@@ -5,7 +5,7 @@ use mathlib.Core.Bool.{Bool, true, false, _&&_, not, cond}
 use mathlib.Core.List.{List, [], _∷_, _++_}
 use Prim.Native.Nat.{ℕ, _+_, _<_, _≤_}
 use native.Mathlib.Omega.{arith}
-use lib.ListN.{length, drop, getD}
+use lib.ListN.{length, drop, getD, set}
 use lib.Seq.{sets, sets-eq}
 use lib.Dec.{eqb, leb}
 use borrow.Author.Tests.{le-leb, lt-leb, leb-true}
@@ -21,10 +21,15 @@ pub stored : (l vs : List ℕ) → length vs ≤ length l → sets l 0 vs ≡ pu
 unfolding put
 stored l vs h = sets-eq vs l 0 (omega arith)
 
-pub record-stored : (d : Document) (l : List ℕ) (t : ℕ) → t ≡ truthWord (d .current) → 19 ≤ length l
+words-stored : (d : Document) (l : List ℕ) (t : ℕ) → t ≡ truthWord (d .current) → 19 ≤ length l
     → sets l 0 (limitWords (d .limits) (countWords (d .counts) (t ∷ []))) ≡ put 0 (wordsOf d) l
 unfolding wordsOf
-record-stored d l t e h = rw e (stored l (limitWords (d .limits) (countWords (d .counts) (truthWord (d .current) ∷ []))) h)
+words-stored d l t e h = rw e (stored l (limitWords (d .limits) (countWords (d .counts) (truthWord (d .current) ∷ []))) h)
+
+-- the limits, the counts and the last word, one behind the other
+pub record-stored : (d : Document) (l m n : List ℕ) (t : ℕ) → m ≡ sets l 0 (limitWords (d .limits) []) → n ≡ sets m 8 (countWords (d .counts) []) → t ≡ truthWord (d .current)
+    → 19 ≤ length l → set n 18 t ≡ put 0 (wordsOf d) l
+record-stored d l m n t p q e h = (λ i. set ((q ∙ (λ j. sets (p j) 8 (countWords (d .counts) []))) i) 18 t) ∙ words-stored d l t e h
 
 pub truth-back : (t : Bool) → not (eqb (truthWord t) 0) ≡ t
 truth-back true = refl

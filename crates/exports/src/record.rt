@@ -1,9 +1,11 @@
 // A document's record as words: its limits, its counts, and whether its order is current.
 ghost use mathlib.Core.Path.{_≡_};
 ghost use Prim.Native.Nat.{_≤_};
+ghost use mathlib.Core.List.{[]};
 ghost use lib.ListN.{length};
+ghost use lib.Seq.{sets};
 ghost use Rattle.words.specs.Parts.{put};
-ghost use Rattle.exports.specs.Records.{limitsIn, countsIn, documentOf, truthWord, wordsOf, lentRecord};
+ghost use Rattle.exports.specs.Records.{limitsIn, countsIn, documentOf, truthWord, limitWords, countWords, wordsOf, lentRecord};
 use memory::layout::Counts;
 use memory::layout::Document;
 use memory::layout::Limits;
@@ -79,13 +81,10 @@ pub fn truth_word(t: bool) -> u64
     if t { 1 } else { 0 }
 }
 
-// Writes the record over the first words.
-pub fn put_record(words: &mut [u64], d: Document)
+fn put_limits(words: &mut [u64], l: Limits)
     requires { ⌜ 19 ≤ length (now words) ⌝ }
-    ensures { λ _. ⌜ now (words .exit) ≡ put 0 (wordsOf d) (now (words .entry)) ⌝ }
+    ensures { λ _. ⌜ now (words .exit) ≡ sets (now (words .entry)) 0 (limitWords l []) ⌝ }
 {
-    let l = d.limits;
-    let c = d.counts;
     words[0] = l.nodes as u64;
     words[1] = l.children as u64;
     words[2] = l.attributes as u64;
@@ -94,6 +93,12 @@ pub fn put_record(words: &mut [u64], d: Document)
     words[5] = l.textbytes as u64;
     words[6] = l.names as u64;
     words[7] = l.namebytes as u64;
+}
+
+fn put_counts(words: &mut [u64], c: Counts)
+    requires { ⌜ 19 ≤ length (now words) ⌝ }
+    ensures { λ _. ⌜ now (words .exit) ≡ sets (now (words .entry)) 8 (countWords c []) ⌝ }
+{
     words[8] = c.slots as u64;
     words[9] = c.free as u64;
     words[10] = c.children as u64;
@@ -104,5 +109,15 @@ pub fn put_record(words: &mut [u64], d: Document)
     words[15] = c.textbytes as u64;
     words[16] = c.names as u64;
     words[17] = c.namebytes as u64;
-    words[18] = truth_word(d.current);
+}
+
+// Writes the record over the first words.
+pub fn put_record(words: &mut [u64], d: Document)
+    requires { ⌜ 19 ≤ length (now words) ⌝ }
+    ensures { λ _. ⌜ now (words .exit) ≡ put 0 (wordsOf d) (now (words .entry)) ⌝ }
+{
+    let current = truth_word(d.current);
+    put_limits(words, d.limits);
+    put_counts(words, d.counts);
+    words[18] = current;
 }

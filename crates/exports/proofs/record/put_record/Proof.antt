@@ -1,101 +1,39 @@
 -- `exports::record::put_record` meets its contract.
 -- Assumes nothing.
-use Rattle.exports.proofs.Records.{record-stored}
 use native.Mathlib.Omega.{arith}
 use lib.ListN.{length-set}
 use borrow.Author.Needs.{needs}
+use Rattle.exports.proofs.Records.{record-stored}
 use Rattle.exports.proofs.record.put_record.Statement.{statement}
 use Rattle.exports.proofs.record.put_record.Tie as tie
-
-slice-write-words : tie.Need-slice-write-words
-slice-write-words c = search needs
-
-slice-write-words-2 : tie.Need-slice-write-words-2
-slice-write-words-2 c = simp length-set (omega arith)
-
-slice-write-words-3 : tie.Need-slice-write-words-3
-slice-write-words-3 c = simp length-set (omega arith)
-
-slice-write-words-4 : tie.Need-slice-write-words-4
-slice-write-words-4 c = simp length-set (omega arith)
-
-slice-write-words-5 : tie.Need-slice-write-words-5
-slice-write-words-5 c = simp length-set (omega arith)
-
-slice-write-words-6 : tie.Need-slice-write-words-6
-slice-write-words-6 c = simp length-set (omega arith)
-
-slice-write-words-7 : tie.Need-slice-write-words-7
-slice-write-words-7 c = simp length-set (omega arith)
-
-slice-write-words-8 : tie.Need-slice-write-words-8
-slice-write-words-8 c = simp length-set (omega arith)
-
-slice-write-words-9 : tie.Need-slice-write-words-9
-slice-write-words-9 c = simp length-set (omega arith)
-
-slice-write-words-10 : tie.Need-slice-write-words-10
-slice-write-words-10 c = simp length-set (omega arith)
-
-slice-write-words-11 : tie.Need-slice-write-words-11
-slice-write-words-11 c = simp length-set (omega arith)
-
-slice-write-words-12 : tie.Need-slice-write-words-12
-slice-write-words-12 c = simp length-set (omega arith)
-
-slice-write-words-13 : tie.Need-slice-write-words-13
-slice-write-words-13 c = simp length-set (omega arith)
-
-slice-write-words-14 : tie.Need-slice-write-words-14
-slice-write-words-14 c = simp length-set (omega arith)
-
-slice-write-words-15 : tie.Need-slice-write-words-15
-slice-write-words-15 c = simp length-set (omega arith)
-
-slice-write-words-16 : tie.Need-slice-write-words-16
-slice-write-words-16 c = simp length-set (omega arith)
-
-slice-write-words-17 : tie.Need-slice-write-words-17
-slice-write-words-17 c = simp length-set (omega arith)
-
-slice-write-words-18 : tie.Need-slice-write-words-18
-slice-write-words-18 c = simp length-set (omega arith)
 
 truth-word-requires : tie.Need-truth-word-requires
 truth-word-requires c κs = search needs
 
-slice-write-words-19 : tie.Need-slice-write-words-19
-slice-write-words-19 c = simp length-set (omega arith)
+put-limits-requires : tie.Need-put-limits-requires
+put-limits-requires c κs = search needs
+
+put-counts-requires : tie.Need-put-counts-requires
+put-counts-requires c κs = search needs
+
+slice-write-words : tie.Need-slice-write-words
+slice-write-words c = search needs
 
 same-length : tie.Need-same-length
-same-length c = simp length-set
+same-length c = simp length-set (omega arith)
 
 returns : tie.Need-returns
-returns c = let s = c .before .before .before .before in record-stored (s .args .d) (s .args .words .now) _ (c .truth-word .ensures) (s .pre)
+returns c =
+    let s = c .before .before .before .before .before .before .before .before .before .before in
+    record-stored (s .args .d) (s .args .words .now) _ _ _ (c .before .before .before .before .before .before .put-limits .ensures) (c .before .before .put-counts .ensures) (c .before .before .before .before .before .before .before .before .truth-word .ensures) (s .pre)
 
 pub put-record-spec : {M : Type 1} → statement M
 put-record-spec =
     tie.close
     (tie.spec
-    slice-write-words
-    slice-write-words-2
-    slice-write-words-3
-    slice-write-words-4
-    slice-write-words-5
-    slice-write-words-6
-    slice-write-words-7
-    slice-write-words-8
-    slice-write-words-9
-    slice-write-words-10
-    slice-write-words-11
-    slice-write-words-12
-    slice-write-words-13
-    slice-write-words-14
-    slice-write-words-15
-    slice-write-words-16
-    slice-write-words-17
-    slice-write-words-18
     truth-word-requires
-    slice-write-words-19
+    put-limits-requires
+    put-counts-requires
+    slice-write-words
     same-length
     returns)
