@@ -23,11 +23,18 @@ fn both(a: bool, b: bool) -> bool
     if a { b } else { false }
 }
 
-// Within the field, or zero where the word has no use.
+// The greatest that a word may be: its field's, or zero where the word has no use.
+fn most(used: bool, limit: u64) -> u64
+    ensures { λ r. ⌜ r ≡ most used limit ⌝ }
+{
+    if used { limit } else { 0 }
+}
+
+// One comparison, whichever it is: words of one use share its bound.
 fn fits(word: u64, used: bool, limit: u64) -> bool
     ensures { λ r. ⌜ r ≡ leb word (most used limit) ⌝ }
 {
-    if used { word <= limit } else { word <= 0 }
+    word <= most(used, limit)
 }
 
 fn span_fits(span: Span, used: bool) -> bool

@@ -1,13 +1,16 @@
 -- `slots::decode::fits` meets its contract.
 -- Assumes nothing.
+use mathlib.Core.Path.{ap}
+use lib.Dec.{leb}
+use borrow.Author.Needs.{needs}
 use Rattle.slots.proofs.decode.fits.Statement.{statement}
 use Rattle.slots.proofs.decode.fits.Tie as tie
 
-returns : tie.Need-returns
-returns c = rw (c .if1 .taken)
+most-requires : tie.Need-most-requires
+most-requires c κs = search needs
 
-returns-2 : tie.Need-returns-2
-returns-2 c = rw (c .if1 .left)
+returns : tie.Need-returns
+returns c = ap (leb (c .before .args .word)) (c .most .ensures)
 
 pub fits-spec : {M : Type 1} → statement M
-fits-spec = tie.close (tie.spec returns returns-2)
+fits-spec = tie.close (tie.spec most-requires returns)
