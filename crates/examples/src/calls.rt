@@ -12,8 +12,6 @@ use memory::layout::Counts;
 use memory::layout::Document;
 use memory::layout::Limits;
 use model::Refusal;
-use moving::moves::insert_at;
-use moving::moves::reparent;
 use ordering::order::document_order;
 use removing::detach::detach;
 use removing::remove::remove;
@@ -66,7 +64,11 @@ fn after_done(d: Document, answer: DoneAnswer) -> After {
 
 fn after_made(d: Document, answer: MadeAnswer) -> After {
     match answer {
-        MadeAnswer::Made(new) => accepted(new.document, new.id),
+        MadeAnswer::Made(new) => {
+            let document = new.document;
+            let id = new.id;
+            accepted(document, id)
+        }
         MadeAnswer::Refused(why) => refused(d, why),
     }
 }
@@ -119,76 +121,127 @@ pub fn start(mem: &mut [u64; MEMORY]) -> After {
     }
 }
 
-// A node behind a node's children, with this name or content, by the letter of the call: an element without a namespace, a text, an empty text, a comment, or
-// a processing instruction without content.
-pub fn append(
-    call: u8,
-    d: Document,
+// An element without a namespace.
+pub fn element(
+    before: After,
     mem: &mut [u64; MEMORY],
     scratch: &mut [u64; SCRATCH],
     parent: NodeId,
-    s: &[u8],
+    local: &[u8],
 ) -> After {
-    match call {
-        b'e' => after_made(d, append_element(d, mem, scratch, parent, b"", s)),
-        b't' => after_made(d, append_text(d, mem, scratch, parent, s)),
-        b'w' => after_made(d, append_text(d, mem, scratch, parent, b"")),
-        b'c' => after_made(d, append_comment(d, mem, scratch, parent, s)),
-        _ => after_made(d, append_pi(d, mem, scratch, parent, s, b"")),
-    }
+    let d = before.document;
+    after_made(d, append_element(d, mem, scratch, parent, b"", local))
 }
 
-// An attribute of this name and value "v", without a namespace or of the namespace u; a declaration of this prefix for the namespace u, or for none.
-pub fn declare(
-    call: u8,
-    d: Document,
+pub fn text(
+    before: After,
+    mem: &mut [u64; MEMORY],
+    scratch: &mut [u64; SCRATCH],
+    parent: NodeId,
+    content: &[u8],
+) -> After {
+    let d = before.document;
+    after_made(d, append_text(d, mem, scratch, parent, content))
+}
+
+pub fn comment(
+    before: After,
+    mem: &mut [u64; MEMORY],
+    scratch: &mut [u64; SCRATCH],
+    parent: NodeId,
+    content: &[u8],
+) -> After {
+    let d = before.document;
+    after_made(d, append_comment(d, mem, scratch, parent, content))
+}
+
+// A processing instruction without content.
+pub fn instruction(
+    before: After,
+    mem: &mut [u64; MEMORY],
+    scratch: &mut [u64; SCRATCH],
+    parent: NodeId,
+    target: &[u8],
+) -> After {
+    let d = before.document;
+    after_made(d, append_pi(d, mem, scratch, parent, target, b""))
+}
+
+// An attribute of value "v".
+pub fn attribute(
+    before: After,
     mem: &mut [u64; MEMORY],
     scratch: &mut [u64; SCRATCH],
     element: NodeId,
-    s: &[u8],
+    namespace: &[u8],
+    local: &[u8],
 ) -> After {
-    match call {
-        b'a' => after_done(d, set_attribute(d, mem, scratch, element, b"", s, b"v")),
-        b'u' => after_done(d, set_attribute(d, mem, scratch, element, b"u", s, b"v")),
-        b'n' => after_made(d, declare_namespace(d, mem, scratch, element, s, b"u")),
-        _ => after_made(d, declare_namespace(d, mem, scratch, element, s, b"")),
-    }
+    let d = before.document;
+    after_done(
+        d,
+        set_attribute(d, mem, scratch, element, namespace, local, b"v"),
+    )
 }
 
-pub fn unlink(
-    call: u8,
-    d: Document,
+pub fn namespace(
+    before: After,
+    mem: &mut [u64; MEMORY],
+    scratch: &mut [u64; SCRATCH],
+    element: NodeId,
+    prefix: &[u8],
+    uri: &[u8],
+) -> After {
+    let d = before.document;
+    after_made(d, declare_namespace(d, mem, scratch, element, prefix, uri))
+}
+
+pub fn removed(
+    before: After,
     mem: &mut [u64; MEMORY],
     scratch: &mut [u64; SCRATCH],
     id: NodeId,
 ) -> After {
-    match call {
-        b'r' => after_done(d, remove(d, mem, scratch, id)),
-        _ => after_done(d, detach(d, mem, scratch, id)),
-    }
+    let d = before.document;
+    after_done(d, remove(d, mem, scratch, id))
+}
+
+pub fn detached(
+    before: After,
+    mem: &mut [u64; MEMORY],
+    scratch: &mut [u64; SCRATCH],
+    id: NodeId,
+) -> After {
+    let d = before.document;
+    after_done(d, detach(d, mem, scratch, id))
 }
 
 pub fn reparented(
-    d: Document,
+    before: After,
     mem: &mut [u64; MEMORY],
     scratch: &mut [u64; SCRATCH],
     child: NodeId,
     parent: NodeId,
 ) -> After {
-    after_done(d, reparent(d, mem, scratch, child, parent))
+    let d = before.document;
+    after_done(d, moving::moves::reparent(d, mem, scratch, child, parent))
 }
 
 pub fn inserted(
-    d: Document,
+    before: After,
     mem: &mut [u64; MEMORY],
     scratch: &mut [u64; SCRATCH],
     parent: NodeId,
     at: usize,
     child: NodeId,
 ) -> After {
-    after_done(d, insert_at(d, mem, scratch, parent, at, child))
+    let d = before.document;
+    after_done(
+        d,
+        moving::moves::insert_at(d, mem, scratch, parent, at, child),
+    )
 }
 
-pub fn ordered(d: Document, mem: &mut [u64; MEMORY], scratch: &mut [u64; SCRATCH]) -> After {
+pub fn ordered(before: After, mem: &mut [u64; MEMORY], scratch: &mut [u64; SCRATCH]) -> After {
+    let d = before.document;
     after_order(d, document_order(d, mem, scratch))
 }

@@ -20,26 +20,13 @@ pub fn all(a: bool, b: bool, c: bool) -> bool {
 }
 
 // Whether the call was accepted and answered this handle.
-fn made(after: After, index: u32, generation: u32) -> bool {
+pub fn made(after: After, index: u32, generation: u32) -> bool {
     let id = after.id;
     all(
         after.refusal == 0,
         id.index == index,
         id.generation == generation,
     )
-}
-
-// A digit, or what follows the digits in ASCII, as a number.
-pub fn digit(byte: u8) -> u8 {
-    if byte < 48 { 0 } else { byte - 48 }
-}
-
-// Whether the call answered the handle that two digits give; where no handle is due, whether it has the number of the second.
-pub fn answered(after: After, index: u8, generation: u8) -> bool {
-    if index == b'-' {
-        return after.refusal == digit(generation);
-    }
-    made(after, digit(index) as u32, digit(generation) as u32)
 }
 
 // Whether the children of a node lie in this block.
@@ -100,27 +87,4 @@ pub fn key_refusal(after: After, mem: &[u64; MEMORY], id: NodeId) -> u8 {
         KeyAnswer::Nothing => 0,
         KeyAnswer::Refused(why) => model::number(why),
     }
-}
-
-// Where the capacities of the arena of children start, by docs/LAYOUT.md: 15 N + A.
-const CAPACITIES: usize = 304;
-
-// Whether the children of a node lie in this block, its capacity is recorded, and the arena ends behind it.
-pub fn has_capacity(
-    after: After,
-    mem: &[u64; MEMORY],
-    id: NodeId,
-    start: u32,
-    len: u32,
-    capacity: u32,
-) -> bool {
-    let at = CAPACITIES + start as usize;
-    if MEMORY <= at {
-        return false;
-    }
-    all(
-        has_block(after, mem, id, start, len),
-        mem[at] == capacity as u64,
-        has_entries(after, start as usize + capacity as usize),
-    )
 }

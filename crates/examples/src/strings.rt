@@ -1,82 +1,103 @@
 // Names, texts, prefixes, comments and targets: bench examples 9 to 12. Each case is a document of its own.
 use crate::calls::MEMORY;
 use crate::calls::SCRATCH;
-use crate::calls::append;
-use crate::calls::declare;
+use crate::calls::attribute;
+use crate::calls::comment;
+use crate::calls::element;
 use crate::calls::handle;
+use crate::calls::instruction;
+use crate::calls::namespace;
 use crate::calls::start;
+use crate::calls::text;
 use crate::checks::all;
 use crate::checks::both;
 
-// The number that a call under the Root is refused with: 0 for none.
-fn number(call: u8, s: &[u8]) -> u8 {
+// The number that an element of this name is refused with: 0 for none.
+fn element_number(local: &[u8]) -> u8 {
     let mut mem = [0u64; MEMORY];
     let mut scratch = [0u64; SCRATCH];
     let fresh = start(&mut mem);
-    let after = append(
-        call,
-        fresh.document,
-        &mut mem,
-        &mut scratch,
-        handle(0, 0),
-        s,
-    );
+    let after = element(fresh, &mut mem, &mut scratch, handle(0, 0), local);
     after.refusal
 }
 
-// The number that a call of the element under the Root is refused with.
-fn number_of_element(call: u8, s: &[u8]) -> u8 {
+fn root_text_number(content: &[u8]) -> u8 {
     let mut mem = [0u64; MEMORY];
     let mut scratch = [0u64; SCRATCH];
     let fresh = start(&mut mem);
-    let root = handle(0, 0);
-    let e = append(b'e', fresh.document, &mut mem, &mut scratch, root, b"e");
-    let after = declare(call, e.document, &mut mem, &mut scratch, handle(1, 0), s);
+    let after = text(fresh, &mut mem, &mut scratch, handle(0, 0), content);
+    after.refusal
+}
+
+fn comment_number(content: &[u8]) -> u8 {
+    let mut mem = [0u64; MEMORY];
+    let mut scratch = [0u64; SCRATCH];
+    let fresh = start(&mut mem);
+    let after = comment(fresh, &mut mem, &mut scratch, handle(0, 0), content);
+    after.refusal
+}
+
+fn target_number(target: &[u8]) -> u8 {
+    let mut mem = [0u64; MEMORY];
+    let mut scratch = [0u64; SCRATCH];
+    let fresh = start(&mut mem);
+    let after = instruction(fresh, &mut mem, &mut scratch, handle(0, 0), target);
+    after.refusal
+}
+
+fn attribute_number(uri: &[u8], local: &[u8]) -> u8 {
+    let mut mem = [0u64; MEMORY];
+    let mut scratch = [0u64; SCRATCH];
+    let fresh = start(&mut mem);
+    let e = element(fresh, &mut mem, &mut scratch, handle(0, 0), b"e");
+    let after = attribute(e, &mut mem, &mut scratch, handle(1, 0), uri, local);
+    after.refusal
+}
+
+fn prefix_number(prefix: &[u8], uri: &[u8]) -> u8 {
+    let mut mem = [0u64; MEMORY];
+    let mut scratch = [0u64; SCRATCH];
+    let fresh = start(&mut mem);
+    let e = element(fresh, &mut mem, &mut scratch, handle(0, 0), b"e");
+    let after = namespace(e, &mut mem, &mut scratch, handle(1, 0), prefix, uri);
     after.refusal
 }
 
 // Example 9.
 pub fn names() -> bool {
-    both(names_refused(), names_accepted())
-}
-
-fn names_refused() -> bool {
     let ascii = all(
-        number(b'e', b"") == 2,
-        number(b'e', b"1a") == 2,
-        number(b'e', b"a:b") == 2,
+        element_number(b"") == 2,
+        element_number(b"1a") == 2,
+        element_number(b"a:b") == 2,
     );
     let wide = both(
-        number(b'e', b"\xC3\x97") == 2,
-        number(b'e', b"\xCD\xBE") == 2,
+        element_number(b"\xC3\x97") == 2,
+        element_number(b"\xCD\xBE") == 2,
     );
-    both(ascii, wide)
-}
-
-fn names_accepted() -> bool {
-    all(
-        number(b'e', b"a-1") == 0,
-        number(b'e', b"\xC3\xA9") == 0,
-        number(b'e', b"a\xC2\xB7") == 0,
-    )
+    let accepted = all(
+        element_number(b"a-1") == 0,
+        element_number(b"\xC3\xA9") == 0,
+        element_number(b"a\xC2\xB7") == 0,
+    );
+    all(ascii, wide, accepted)
 }
 
 // Example 10.
 pub fn root_texts() -> bool {
-    let accepted = both(number(b't', b"") == 0, number(b't', b"\x09") == 0);
-    let refused = both(number(b't', b"a") == 3, number(b't', b"\x0D") == 3);
+    let accepted = both(root_text_number(b"") == 0, root_text_number(b"\x09") == 0);
+    let refused = both(root_text_number(b"a") == 3, root_text_number(b"\x0D") == 3);
     both(accepted, refused)
 }
 
 // Example 11.
 pub fn declarations() -> bool {
     let attributes = both(
-        number_of_element(b'a', b"xmlns") == 2,
-        number_of_element(b'u', b"xmlns") == 0,
+        attribute_number(b"", b"xmlns") == 2,
+        attribute_number(b"u", b"xmlns") == 0,
     );
     let prefixes = both(
-        number_of_element(b'n', b"xml") == 2,
-        number_of_element(b'v', b"p") == 0,
+        prefix_number(b"xml", b"u") == 2,
+        prefix_number(b"p", b"") == 0,
     );
     both(attributes, prefixes)
 }
@@ -84,9 +105,9 @@ pub fn declarations() -> bool {
 // Example 12.
 pub fn comments() -> bool {
     let comments = all(
-        number(b'c', b"a-") == 3,
-        number(b'c', b"a--b") == 3,
-        number(b'c', b"-a") == 0,
+        comment_number(b"a-") == 3,
+        comment_number(b"a--b") == 3,
+        comment_number(b"-a") == 0,
     );
-    both(comments, number(b'p', b"XmL") == 2)
+    both(comments, target_number(b"XmL") == 2)
 }
