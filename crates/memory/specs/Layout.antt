@@ -47,14 +47,14 @@ arenaAt l children = slotsWords (l .nodes)
 arenaAt l attributes = slotsWords (l .nodes) + arenaWords l children
 arenaAt l namespaces = slotsWords (l .nodes) + arenaWords l children + arenaWords l attributes
 
--- texts: lengths, free stack, bytes
+-- texts: ends, free stack, bytes
 abbrev pub textsWords : Limits → ℕ
 textsWords l = 2 * l .texts + l .textBytes
 
 unfoldable pub textsAt : Limits → ℕ
 textsAt l = slotsWords (l .nodes) + arenaWords l children + arenaWords l attributes + arenaWords l namespaces
 
--- names: two lengths a name, bytes
+-- names: two ends a name, bytes
 abbrev pub namesWords : Limits → ℕ
 namesWords l = 2 * l .names + l .nameBytes
 

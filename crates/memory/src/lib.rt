@@ -1,4 +1,4 @@
-// The lent memory of a document: its layout, test 4, reading and writing steps over the whole buffer, and the structure check.
+// The lent memory of a document: its layout, test 4, and reading and writing steps over the whole buffer.
 pub mod entries;
 pub mod fields;
 pub mod layout;

@@ -1,5 +1,5 @@
--- What lies where in scratch while the structure is checked: the counts of the free list, N words; three words a node for other rules; the
--- marks of the three arenas; T words for the texts.
+-- What lies where in scratch while the structure is checked: in the first N of four N words the marks of rules 2, 4 and 6, one after the other; behind the
+-- four N the marks of the three arenas, then T words for the texts.
 use Prim.Native.Nat.{ℕ, _+_, _*_}
 use Rattle.model.specs.Kinds.{Which, children, attributes, namespaces}
 use Rattle.model.specs.Doc.{Limits}
