@@ -2,16 +2,13 @@
 ghost use mathlib.Core.Path.{_≡_};
 ghost use Prim.Native.Nat.{_<_, _≤_};
 ghost use lib.ListN.{length};
-ghost use Rattle.slots.specs.Records.{recordOf};
 ghost use Rattle.slots.specs.Regions.{slotsWords, readRecord, recordWords, generationAt, recordAt, nodeAt, orderAt, putRecord, putOrder, clearOrder, keyOf};
 use crate::Loaded;
-use crate::Node;
 use crate::NodeRecord;
 use crate::NodeSlot;
 use crate::OrderKey;
 use crate::Span;
 use crate::decode::node_of;
-use crate::encode::record_of;
 
 fn read_record(words: &[u64]) -> NodeRecord
     requires { ⌜ length (now words) ≡ 12 ⌝ }
@@ -86,14 +83,6 @@ pub fn load_node(words: &[u64], n: usize, slot: NodeSlot) -> Loaded
     ensures { λ r. ⌜ r ≡ nodeAt n (now (words .entry)) (slot .0) ⌝ }
 {
     node_of(load_record(words, n, slot))
-}
-
-pub fn store_node(words: &mut [u64], n: usize, slot: NodeSlot, node: Node)
-    requires { ⌜ (slotsWords n ≤ length (now words)) × (slot .0 < n) ⌝ }
-    ensures { λ _. ⌜ now (words .exit) ≡ putRecord n (now (words .entry)) (slot .0) (recordOf node) ⌝ }
-{
-    let r = record_of(node);
-    store_record(words, n, slot, r);
 }
 
 pub fn generation_at(words: &[u64], n: usize, slot: NodeSlot) -> u64

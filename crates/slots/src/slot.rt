@@ -3,7 +3,7 @@ ghost use mathlib.Core.Path.{_≡_};
 ghost use Prim.Native.Nat.{_+_, _<_, _≤_};
 ghost use lib.ListN.{length};
 ghost use Rattle.slots.specs.Regions.{slotsWords, generationAt, putGeneration};
-ghost use Rattle.slots.specs.Slots.{up, resolves, resolved, hasSlot, taken, takenGenerations, takenWords, CanTake, freedWords};
+ghost use Rattle.slots.specs.Slots.{up, resolved, hasSlot, taken, takenGenerations, takenWords, CanTake, freedWords};
 use crate::Loaded;
 use crate::NodeId;
 use crate::NodeSlot;
@@ -36,18 +36,6 @@ pub fn resolve(words: &[u64], n: usize, made: usize, id: NodeId) -> Loaded
         return Loaded::NoNode;
     }
     load_node(words, n, slot)
-}
-
-// Whether a handle resolves.
-pub fn resolves(words: &[u64], n: usize, made: usize, id: NodeId) -> bool
-    requires { ⌜ (slotsWords n ≤ length (now words)) × (made ≤ n) ⌝ }
-    ensures { λ r. ⌜ r ≡ resolves n (now (words .entry)) made id ⌝ }
-{
-    let node = resolve(words, n, made, id);
-    match node {
-        Loaded::Found(_) => true,
-        Loaded::NoNode => false,
-    }
 }
 
 // Whether a slot can be taken: asked before any write.
