@@ -15,4 +15,5 @@ pub mod Linked
 pub mod Kept
 pub mod Promises
 pub mod Shown
+pub mod Lent
 pub mod Past

@@ -1,6 +1,7 @@
 pub mod Layout
 pub mod Decode
 pub mod Words
+pub mod Stored
 pub mod Writing
 pub mod Entries
 pub mod Undamaged

@@ -3,4 +3,5 @@ pub mod entries;
 pub mod fields;
 pub mod layout;
 pub mod read;
+pub mod stored;
 pub mod write;

@@ -10,14 +10,13 @@ use Rattle.blocks.specs.Arena.{Block, block, listOf}
 use Rattle.slots.specs.Handles.{wordOf}
 use Rattle.slots.specs.Regions.{orderAt}
 use Rattle.model.specs.Refusals.{numberOf}
-use Rattle.texts.specs.Words.{textShown}
 use Rattle.names.specs.Table.{name}
-use Rattle.names.specs.Words.{partShown}
 use Rattle.model.specs.Kinds.{Which, attributes, namespaces, mapKind}
 use Rattle.model.specs.Calls.{Answered, refused, made, truth, node, listed, everyNode, kindIs, nameIs, key}
 use Rattle.memory.specs.declared.layout.Document.{Document}
 use Rattle.memory.specs.Layout.{memoryOk}
-use Rattle.memory.specs.Decode.{kindOf, blockOf, elementRange, slotsPart, slotsMade, arenaUsed, arenaIn, textLimits, textCounts, textsPart, nameLimits, nameCounts, namesPart}
+use Rattle.memory.specs.Decode.{kindOf, blockOf, elementRange, slotsPart, slotsMade, arenaUsed, arenaIn}
+pub use Rattle.memory.specs.Stored.{textIn, namePart}
 use Rattle.reading.specs.declared.answers.TruthAnswer.{TruthAnswer}
 use Rattle.reading.specs.declared.answers.TruthAnswer.the-variants as truthAnswer
 use Rattle.reading.specs.declared.answers.NodeAnswer.{NodeAnswer}
@@ -63,19 +62,10 @@ abbrev pub ofNodes : List ℕ → NodesAnswer → Answered
 ofNodes out (nodesAnswer.Count n) = everyNode (take n out)
 ofNodes out (nodesAnswer.Refused why) = refused (numberOf why)
 
--- the bytes of a text field; "an empty text .. for a number outside its table or bytes outside their pool"
-abbrev pub textIn : Document → List ℕ → Option ℕ → List ℕ
-textIn d mem none = []
-textIn d mem (some s) = textShown (textLimits d) (textCounts d) s (textsPart d mem)
-
 abbrev pub ofKind : Document → List ℕ → KindAnswer → Answered
 ofKind d mem (kindAnswer.Kind v) = kindIs (some (mapKind (λ n. n) (textIn d mem) (kindOf v))) (elementRange attributes v) (elementRange namespaces v)
 ofKind d mem kindAnswer.Nothing = kindIs none (block 0 0) (block 0 0)
 ofKind d mem (kindAnswer.Refused why) = refused (numberOf why)
-
--- part 0 of a name is its namespace, part 1 its local part
-abbrev pub namePart : Document → List ℕ → ℕ → ℕ → List ℕ
-namePart d mem n k = partShown (nameLimits d) (nameCounts d) n k (namesPart d mem)
 
 abbrev pub ofName : Document → List ℕ → NameAnswer → Answered
 ofName d mem (nameAnswer.Name n) = nameIs (some (name (namePart d mem (n .0) 0) (namePart d mem (n .0) 1)))

@@ -1,9 +1,9 @@
--- `reading::text::slot_bytes` meets its contract.
+-- `memory::stored::slot_bytes` meets its contract.
 -- Assumes nothing.
-use Rattle.reading.proofs.Texts.{texts-length, text-of}
+use Rattle.memory.proofs.Lent.{texts-length, text-of}
 use borrow.Author.Needs.{needs}
-use Rattle.reading.proofs.text.slot_bytes.Statement.{statement}
-use Rattle.reading.proofs.text.slot_bytes.Tie as tie
+use Rattle.memory.proofs.stored.slot_bytes.Statement.{statement}
+use Rattle.memory.proofs.stored.slot_bytes.Tie as tie
 
 texts-words-requires : tie.Need-texts-words-requires
 texts-words-requires c κs = search needs

@@ -1,9 +1,9 @@
--- `reading::name::has_name` meets its contract.
+-- `memory::stored::has_name` meets its contract.
 -- Assumes nothing.
-use Rattle.reading.proofs.Texts.{names-length, there-of}
+use Rattle.memory.proofs.Lent.{names-length, there-of}
 use borrow.Author.Needs.{needs}
-use Rattle.reading.proofs.name.has_name.Statement.{statement}
-use Rattle.reading.proofs.name.has_name.Tie as tie
+use Rattle.memory.proofs.stored.has_name.Statement.{statement}
+use Rattle.memory.proofs.stored.has_name.Tie as tie
 
 names-words-requires : tie.Need-names-words-requires
 names-words-requires c κs = search needs

@@ -1,15 +1,15 @@
--- `reading::name::names_words` meets its contract.
+-- `memory::stored::texts_words` meets its contract.
 -- Assumes nothing.
 use native.Mathlib.Omega.{arith}
 use lib.ListN.{length}
 use Rattle.memory.proofs.Limits.{memory-limits}
-use Rattle.reading.proofs.Texts.{ends, names-lent}
+use Rattle.memory.proofs.Lent.{ends, texts-lent}
 use borrow.Author.Needs.{needs}
-use Rattle.reading.proofs.name.names_words.Statement.{statement}
-use Rattle.reading.proofs.name.names_words.Tie as tie
+use Rattle.memory.proofs.stored.texts_words.Statement.{statement}
+use Rattle.memory.proofs.stored.texts_words.Tie as tie
 
-names-at-requires : tie.Need-names-at-requires
-names-at-requires c κs =
+texts-at-requires : tie.Need-texts-at-requires
+texts-at-requires c κs =
     let s = c .before .before in
     memory-limits (s .args .d) (length (s .args .mem .now)) (s .pre)
 
@@ -17,25 +17,25 @@ mul-end : tie.Need-mul-end
 mul-end c =
     let s = c .before .before .before .before in
     let z = ends (s .args .d) (length (s .args .mem .now)) (s .pre) in
-    omega (arith, c .before .names-at .ensures)
+    omega (arith, c .before .texts-at .ensures)
 
 add-end : tie.Need-add-end
 add-end c =
     let s = c .before .before .before .before .before in
     let z = ends (s .args .d) (length (s .args .mem .now)) (s .pre) in
-    omega (arith, c .before .before .names-at .ensures)
+    omega (arith, c .before .before .texts-at .ensures)
 
 add-end-2 : tie.Need-add-end-2
 add-end-2 c =
     let s = c .before .before .before .before .before in
     let z = ends (s .args .d) (length (s .args .mem .now)) (s .pre) in
-    omega (arith, c .before .before .names-at .ensures)
+    omega (arith, c .before .before .texts-at .ensures)
 
 mul-result : tie.Need-mul-result
 mul-result c =
     let s = c .before .before .before .before .before in
     let z = ends (s .args .d) (length (s .args .mem .now)) (s .pre) in
-    omega (arith, c .before .before .names-at .ensures)
+    omega (arith, c .before .before .texts-at .ensures)
 
 sub-result : tie.Need-sub-result
 sub-result c = search needs
@@ -47,18 +47,18 @@ part-result-end : tie.Need-part-result-end
 part-result-end c =
     let s = c .before .before .before .before .before in
     let z = ends (s .args .d) (length (s .args .mem .now)) (s .pre) in
-    omega (arith, c .before .before .names-at .ensures)
+    omega (arith, c .before .before .texts-at .ensures)
 
 returns : tie.Need-returns
 returns c =
     let s = c .before .before .before .before .before .before in
-    names-lent (s .args .d) (s .args .mem .now) _ (c .before .before .before .names-at .ensures)
+    texts-lent (s .args .d) (s .args .mem .now) _ (c .before .before .before .texts-at .ensures)
 
-pub names-words-spec : {M : Type 1} → statement M
-names-words-spec =
+pub texts-words-spec : {M : Type 1} → statement M
+texts-words-spec =
     tie.close
     (tie.spec
-    names-at-requires
+    texts-at-requires
     mul-end
     add-end
     add-end-2

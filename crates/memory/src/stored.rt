@@ -1,0 +1,144 @@
+// The bytes of stored texts and names, one a word, as parts of the memory: what is shown of them, also in damaged memory.
+ghost use mathlib.Core.Path.{_≡_};
+ghost use mathlib.Core.Bool.{true};
+ghost use mathlib.Core.Option.{some};
+ghost use lib.ListN.{length};
+ghost use Rattle.names.specs.Words.{nameThere};
+ghost use Rattle.memory.specs.Layout.{memoryOk};
+ghost use Rattle.memory.specs.Decode.{slotOf, textLimits, textCounts, textsPart, nameLimits, nameCounts, namesPart};
+ghost use Rattle.memory.specs.Stored.{textIn, namePart};
+use crate::layout::Document;
+use crate::layout::names_at;
+use crate::layout::texts_at;
+use names::NameCounts;
+use names::NameLimits;
+use slots::Chars;
+use slots::NameId;
+use slots::TextSlot;
+use texts::TextCounts;
+use texts::TextLimits;
+
+pub fn text_limits(d: Document) -> TextLimits
+    ensures { λ r. ⌜ r ≡ textLimits d ⌝ }
+{
+    let l = d.limits;
+    TextLimits {
+        slots: l.texts,
+        bytes: l.textbytes,
+    }
+}
+
+pub fn text_counts(d: Document) -> TextCounts
+    ensures { λ r. ⌜ r ≡ textCounts d ⌝ }
+{
+    let c = d.counts;
+    TextCounts {
+        slots: c.texts,
+        free: c.freetexts,
+        bytes: c.textbytes,
+    }
+}
+
+fn name_limits(d: Document) -> NameLimits
+    ensures { λ r. ⌜ r ≡ nameLimits d ⌝ }
+{
+    let l = d.limits;
+    NameLimits {
+        names: l.names,
+        bytes: l.namebytes,
+    }
+}
+
+fn name_counts(d: Document) -> NameCounts
+    ensures { λ r. ⌜ r ≡ nameCounts d ⌝ }
+{
+    let c = d.counts;
+    NameCounts {
+        names: c.names,
+        bytes: c.namebytes,
+    }
+}
+
+// The words of the pool.
+fn texts_words(d: Document, mem: &[u64]) -> &[u64]
+    requires { ⌜ memoryOk d (length (now mem)) ≡ true ⌝ }
+    ensures { λ r. ⌜ now r ≡ textsPart d (now (mem .entry)) ⌝ }
+{
+    let l = d.limits;
+    let start = texts_at(l);
+    let end = start + (2 * l.texts + l.textbytes);
+    &mem[start..end]
+}
+
+// The words of the table.
+fn names_words(d: Document, mem: &[u64]) -> &[u64]
+    requires { ⌜ memoryOk d (length (now mem)) ≡ true ⌝ }
+    ensures { λ r. ⌜ now r ≡ namesPart d (now (mem .entry)) ⌝ }
+{
+    let l = d.limits;
+    let start = names_at(l);
+    let end = start + (2 * l.names + l.namebytes);
+    &mem[start..end]
+}
+
+fn slot_bytes(d: Document, mem: &[u64], slot: TextSlot) -> &[u64]
+    requires { ⌜ memoryOk d (length (now mem)) ≡ true ⌝ }
+    ensures { λ r. ⌜ now r ≡ textIn d (now (mem .entry)) (some (slot .0)) ⌝ }
+{
+    let s = slot.0;
+    texts::read_text(
+        texts_words(d, mem),
+        text_limits(d),
+        text_counts(d),
+        s as usize,
+    )
+}
+
+pub fn text_bytes(d: Document, mem: &[u64], text: Chars) -> &[u64]
+    requires { ⌜ memoryOk d (length (now mem)) ≡ true ⌝ }
+    ensures { λ r. ⌜ now r ≡ textIn d (now (mem .entry)) (slotOf text) ⌝ }
+{
+    match text {
+        Chars::Empty => &mem[..0],
+        Chars::Expanded(slot) => slot_bytes(d, mem, slot),
+    }
+}
+
+pub fn has_name(d: Document, mem: &[u64], number: NameId) -> bool
+    requires { ⌜ memoryOk d (length (now mem)) ≡ true ⌝ }
+    ensures { λ r. ⌜ r ≡ nameThere (nameLimits d) (nameCounts d) (number .0) (namesPart d (now (mem .entry))) ⌝ }
+{
+    let n = number.0;
+    names::has_name(
+        names_words(d, mem),
+        name_limits(d),
+        name_counts(d),
+        n as usize,
+    )
+}
+
+pub fn namespace_bytes(d: Document, mem: &[u64], number: NameId) -> &[u64]
+    requires { ⌜ memoryOk d (length (now mem)) ≡ true ⌝ }
+    ensures { λ r. ⌜ now r ≡ namePart d (now (mem .entry)) (number .0) 0 ⌝ }
+{
+    let n = number.0;
+    names::read_namespace(
+        names_words(d, mem),
+        name_limits(d),
+        name_counts(d),
+        n as usize,
+    )
+}
+
+pub fn local_bytes(d: Document, mem: &[u64], number: NameId) -> &[u64]
+    requires { ⌜ memoryOk d (length (now mem)) ≡ true ⌝ }
+    ensures { λ r. ⌜ now r ≡ namePart d (now (mem .entry)) (number .0) 1 ⌝ }
+{
+    let n = number.0;
+    names::read_local(
+        names_words(d, mem),
+        name_limits(d),
+        name_counts(d),
+        n as usize,
+    )
+}
