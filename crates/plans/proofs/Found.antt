@@ -25,7 +25,6 @@ use Rattle.slots.specs.declared.Loaded.{Loaded}
 use Rattle.slots.specs.declared.Loaded.the-variants.{Found, NoNode}
 use Rattle.slots.proofs.Handles.{handleIndex-wordOf}
 use Rattle.names.specs.Table.{Name, name, sameName}
-use Rattle.names.specs.Words.{partShown}
 use Rattle.model.specs.Kinds.{Kind, root, Which, attributes, namespaces, whichOf}
 use Rattle.model.specs.Doc.{Doc, resolves, liveSlot, generationAt, handleAt, kindAt, parentAt, rangeIn, listAt, pairAt, bytesAt, anyOption, orElse, handleWord}
 use Rattle.model.specs.Rules.{Rules}
@@ -34,14 +33,13 @@ use Rattle.model.proofs.Membership.{find-some}
 use Rattle.model.proofs.Handles.{handleWord-halves}
 use Rattle.memory.specs.declared.layout.Document.{Document}
 use Rattle.memory.specs.Layout.{entriesOf}
-use Rattle.memory.specs.Decode.{kindOf, kindLoaded, blockOf, rangeOf, loadedAt, slotsPart, slotsMade, arenaPart, arenaIn, nameLimits, nameCounts, namesPart, resolvedIn, poolIn, namesIn, lengthsAdd, decode}
+use Rattle.memory.specs.Decode.{kindOf, kindLoaded, blockOf, rangeOf, loadedAt, slotsPart, slotsMade, arenaPart, arenaIn, resolvedIn, poolIn, namesIn, lengthsAdd, decode}
 use Rattle.memory.specs.Undamaged.{Undamaged}
 use Rattle.memory.proofs.Columns.{kind-column}
 use Rattle.plans.specs.declared.search.Listed.{Listed}
 use Rattle.plans.specs.Listed.{listedWord}
 use Rattle.plans.proofs.Viewed.{resolves-stale}
 use Rattle.plans.proofs.Room.{own-range, block-held}
-use Rattle.plans.proofs.Shown.{pair-shown}
 
 -- ---- the kind in a handle's slot
 
@@ -58,13 +56,6 @@ module _ (d : Document) (mem : List ℕ) (w made : ℕ) (em : made ≡ slotsMade
       sym (ap (orElse root) (List·getD-eq-default (tabulate kinds (slotsMade d)) none {n = handleIndex w} (omega (arith, em, length-tabulate kinds (slotsMade d)))))
 
 -- ---- a name, a prefix
-
-module _ (d : Document) (mem : List ℕ) (u : Undamaged d mem) (n : ℕ) (w : List ℕ) (e : w ≡ namesPart d mem) (r : List ℕ) where
-  pub namespace-told : r ≡ partShown (nameLimits d) (nameCounts d) n 0 w → r ≡ pairAt (decode d mem) n .namespace
-  namespace-told q = q ∙ ap (partShown (nameLimits d) (nameCounts d) n 0) e ∙ sym (ap (λ (x : Name). x .namespace) (pair-shown d mem u n))
-
-  pub local-told : r ≡ partShown (nameLimits d) (nameCounts d) n 1 w → r ≡ pairAt (decode d mem) n .local
-  local-told q = q ∙ ap (partShown (nameLimits d) (nameCounts d) n 1) e ∙ sym (ap (λ (x : Name). x .local) (pair-shown d mem u n))
 
 bytes-same : (w s b : List ℕ) (t : Bool) → w ≡ s → t ≡ sameBytes w b → sameBytes b s ≡ t
 bytes-same w s b t e q = sameBytes-comm b s ∙ ap (λ (x : List ℕ). sameBytes x b) (sym e) ∙ sym q
