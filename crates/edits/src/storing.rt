@@ -10,10 +10,11 @@ ghost use Rattle.edits.specs.Stores.{FieldFits, Storable, TwoStorable};
 use memory::layout::Counts;
 use memory::layout::Document;
 use memory::layout::texts_at;
+use memory::stored::text_counts;
+use memory::stored::text_limits;
 use slots::Chars;
 use slots::TextSlot;
 use texts::TextCounts;
-use texts::TextLimits;
 use texts::edits::Stored;
 use texts::edits::TextField;
 
@@ -28,27 +29,6 @@ pub struct StoredTexts {
     pub document: Document,
     pub first: Chars,
     pub second: Chars,
-}
-
-pub fn text_limits(d: Document) -> TextLimits
-    ensures { λ r. ⌜ r ≡ textLimits d ⌝ }
-{
-    let l = d.limits;
-    TextLimits {
-        slots: l.texts,
-        bytes: l.textbytes,
-    }
-}
-
-pub fn text_counts(d: Document) -> TextCounts
-    ensures { λ r. ⌜ r ≡ textCounts d ⌝ }
-{
-    let c = d.counts;
-    TextCounts {
-        slots: c.texts,
-        free: c.freetexts,
-        bytes: c.textbytes,
-    }
 }
 
 // The record with other counts of the texts; the order stays as it is.
