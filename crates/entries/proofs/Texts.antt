@@ -3,16 +3,16 @@
 use mathlib.Core.Path.{_≡_, refl, sym, ap, _∙_}
 use mathlib.Core.Bool.{Bool, true, false, not, _&&_, cond, and-false}
 use mathlib.Core.List.{List, [], reverse}
-use Prim.Native.Nat.{ℕ, _+_, _-_, _*_, _≤_, _<_, min}
+use Prim.Native.Nat.{ℕ, _+_, _≤_, _<_, min}
 use native.Mathlib.Decide.{ℕ-discrete, decLt}
 use native.Mathlib.Omega.{arith}
-use lib.ListN.{length, getD, take, drop, List·getD-eq-default}
+use lib.ListN.{length, getD, List·getD-eq-default}
 use lib.Dec.{eqb, ltb}
 use borrow.Author.Tests.{eq-eqb, ne-eqb, ltb-true, le-ltb, le-leb}
 use Rattle.words.specs.Parts.{part}
 use Rattle.words.specs.Lists.{countOf, all, allBelow}
 use Rattle.words.specs.Ends.{startOf, lengthOf}
-use Rattle.words.proofs.Parts.{lent, length-part}
+use Rattle.words.proofs.Parts.{length-part}
 use Rattle.words.proofs.Lists.{length-tabulate, getD-tabulate}
 use Rattle.words.proofs.Tests.{and-left, and-right, eqb-same}
 use Rattle.slots.proofs.Lists.{allBelow-next, allBelow-not, allBelow-same}
@@ -27,58 +27,21 @@ use Rattle.model.specs.Doc.{Doc, liveSlot, kindIn}
 use Rattle.model.specs.Rules.{held, heldIn, slotsHeld}
 use Rattle.model.specs.RulesTest.{implies, allLive, textsHold}
 use Rattle.memory.specs.declared.layout.Document.{Document}
-use Rattle.memory.specs.Layout.{limitsOf, textsAt, namesAt, memoryOk}
+use Rattle.memory.specs.Layout.{limitsOf, memoryOk}
 use Rattle.memory.specs.Decode.{slotsMade, countsWithin, textLimits, textCounts, nameLimits, nameCounts, textsPart, namesPart, poolIn, namesIn, textsAdd, namesAdd, lengthsAdd, decode}
-use Rattle.memory.proofs.Limits.{limits-fit, memory-limits, memory-long, names-next, words-next, words-fit}
+use Rattle.memory.proofs.Limits.{limits-fit, memory-limits}
 use Rattle.memory.proofs.Counted.{CountsFit, counts-fit}
 use Rattle.memory.proofs.Columns as columns
 use Rattle.memory.proofs.Shown.{names-shown}
+use Rattle.memory.proofs.Lent.{texts-length}
 use Rattle.entries.specs.Nodes.{noTexts, decodeNodes}
 use Rattle.entries.specs.Marks.{Counted, gathered}
 use Rattle.entries.specs.Fields.{slotsInside, namesInside, fieldsHold, markedOne, slotsOnce, poolHolds}
 use Rattle.entries.proofs.Lists.{and-comm, allBelow-and, all-same, all-gathered, all-reverse}
 use Rattle.entries.proofs.Marks.{passed, refused}
 
--- ---- the two parts of the buffer
-
-module _ (d : Document) (mem : List ℕ) (ok : memoryOk d (length mem) ≡ true) where
-  pub record Parts : Type 0 where
-    pub texts : textsAt (limitsOf (d .limits)) + (2 * d .limits .texts + d .limits .textbytes) ≤ length mem
-    pub names : namesAt (limitsOf (d .limits)) + (2 * d .limits .names + d .limits .namebytes) ≤ length mem
-    pub texts-narrow : textsAt (limitsOf (d .limits)) + (2 * d .limits .texts + d .limits .textbytes) < 4294967296
-    pub names-narrow : namesAt (limitsOf (d .limits)) + (2 * d .limits .names + d .limits .namebytes) < 4294967296
-    pub slots : d .limits .texts ≤ 131072
-
-  pub parts : Parts
-  parts =
-      let l = limitsOf (d .limits) in
-      let f = limits-fit l (memory-limits d (length mem) ok) in
-      let w = words-fit l f in
-      let long = memory-long d (length mem) ok in
-      record {
-        texts = omega (arith, names-next l, words-next l);
-        names = omega (arith, words-next l);
-        texts-narrow = omega (arith, names-next l, words-next l);
-        names-narrow = omega (arith, words-next l);
-        slots = f .texts;
-      }
-
-module _ (d : Document) (mem : List ℕ) (start : ℕ) where
-  pub texts-part : start ≡ textsAt (limitsOf (d .limits))
-      → take (start + (2 * d .limits .texts + d .limits .textbytes) - start) (drop start mem) ≡ textsPart d mem
-  texts-part e =
-      lent mem start (2 * d .limits .texts + d .limits .textbytes)
-      ∙ ap (λ (s : ℕ). part s (2 * d .limits .texts + d .limits .textbytes) mem) e
-
-  pub names-part : start ≡ namesAt (limitsOf (d .limits))
-      → take (start + (2 * d .limits .names + d .limits .namebytes) - start) (drop start mem) ≡ namesPart d mem
-  names-part e =
-      lent mem start (2 * d .limits .names + d .limits .namebytes)
-      ∙ ap (λ (s : ℕ). part s (2 * d .limits .names + d .limits .namebytes) mem) e
-
 pub length-texts : (d : Document) (mem : List ℕ) → memoryOk d (length mem) ≡ true → length (textsPart d mem) ≡ d .limits .texts + d .limits .texts + d .limits .textbytes
-length-texts d mem ok =
-    length-part mem (textsAt (limitsOf (d .limits))) (2 * d .limits .texts + d .limits .textbytes) (parts d mem ok .texts) ∙ omega arith
+length-texts d mem ok = texts-length d mem (textLimits d) (textsPart d mem) refl refl ok
 
 -- ---- the marks
 
@@ -358,5 +321,5 @@ module _ (d : Document) (mem : List ℕ) (ok : memoryOk d (length mem) ≡ true)
         arith,
         length-part (textsPart d mem) (d .limits .texts) (d .counts .freetexts) (omega (arith, length-texts d mem ok, fit .free-texts)),
         fit .free-texts,
-        parts d mem ok .slots,
+        limits-fit (limitsOf (d .limits)) (memory-limits d (length mem) ok) .texts,
       ))

@@ -22,11 +22,13 @@ use crate::nodes::kind_of;
 use crate::nodes::name_of;
 use crate::nodes::second_text;
 use memory::layout::Document;
-use names::NameCounts;
-use names::NameLimits;
+use memory::stored::name_counts;
+use memory::stored::name_limits;
+use memory::stored::names_words;
+use memory::stored::text_counts;
+use memory::stored::text_limits;
+use memory::stored::texts_words;
 use slots::Chars;
-use texts::TextCounts;
-use texts::TextLimits;
 
 // Whether the name number of an element or an attribute is below the name count.
 fn names_inside(d: Document, mem: &[u64], s: usize) -> bool
@@ -92,20 +94,7 @@ fn texts_hold(d: Document, mem: &[u64]) -> bool
     requires { ⌜ memoryOk d (length (now mem)) ≡ true ⌝ }
     ensures { λ r. ⌜ r ≡ poolOk (textLimits d) (textCounts d) (textsPart d (now (mem .entry))) ⌝ }
 {
-    let l = d.limits;
-    let c = d.counts;
-    let start = memory::layout::texts_at(l);
-    let end = start + (2 * l.texts + l.textbytes);
-    let limits = TextLimits {
-        slots: l.texts,
-        bytes: l.textbytes,
-    };
-    let counts = TextCounts {
-        slots: c.texts,
-        free: c.freetexts,
-        bytes: c.textbytes,
-    };
-    texts::check::check_texts(&mem[start..end], limits, counts)
+    texts::check::check_texts(texts_words(d, mem), text_limits(d), text_counts(d))
 }
 
 // What the name table says of itself.
@@ -113,19 +102,7 @@ fn names_hold(d: Document, mem: &[u64]) -> bool
     requires { ⌜ memoryOk d (length (now mem)) ≡ true ⌝ }
     ensures { λ r. ⌜ r ≡ tableOk (nameLimits d) (nameCounts d) (namesPart d (now (mem .entry))) ⌝ }
 {
-    let l = d.limits;
-    let c = d.counts;
-    let start = memory::layout::names_at(l);
-    let end = start + (2 * l.names + l.namebytes);
-    let limits = NameLimits {
-        names: l.names,
-        bytes: l.namebytes,
-    };
-    let counts = NameCounts {
-        names: c.names,
-        bytes: c.namebytes,
-    };
-    names::check_names(&mem[start..end], limits, counts)
+    names::check_names(names_words(d, mem), name_limits(d), name_counts(d))
 }
 
 // Counts the free text list.
@@ -133,20 +110,7 @@ fn count_free(d: Document, mem: &[u64], marks: &mut [u64])
     requires { ⌜ (memoryOk d (length (now mem)) ≡ true) × (d .counts .freetexts ≤ d .limits .texts) × Markable (part (d .limits .texts) (d .counts .freetexts) (textsPart d (now mem))) (now marks) ⌝ }
     ensures { λ _. ⌜ now (marks .exit) ≡ marked (part (d .limits .texts) (d .counts .freetexts) (textsPart d (now (mem .entry)))) (now (marks .entry)) ⌝ }
 {
-    let l = d.limits;
-    let c = d.counts;
-    let start = memory::layout::texts_at(l);
-    let end = start + (2 * l.texts + l.textbytes);
-    let limits = TextLimits {
-        slots: l.texts,
-        bytes: l.textbytes,
-    };
-    let counts = TextCounts {
-        slots: c.texts,
-        free: c.freetexts,
-        bytes: c.textbytes,
-    };
-    texts::check::mark_free(&mem[start..end], limits, counts, marks);
+    texts::check::mark_free(texts_words(d, mem), text_limits(d), text_counts(d), marks);
 }
 
 // Whether each text slot was counted once.

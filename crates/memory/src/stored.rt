@@ -39,7 +39,7 @@ pub fn text_counts(d: Document) -> TextCounts
     }
 }
 
-fn name_limits(d: Document) -> NameLimits
+pub fn name_limits(d: Document) -> NameLimits
     ensures { λ r. ⌜ r ≡ nameLimits d ⌝ }
 {
     let l = d.limits;
@@ -49,7 +49,7 @@ fn name_limits(d: Document) -> NameLimits
     }
 }
 
-fn name_counts(d: Document) -> NameCounts
+pub fn name_counts(d: Document) -> NameCounts
     ensures { λ r. ⌜ r ≡ nameCounts d ⌝ }
 {
     let c = d.counts;
@@ -60,7 +60,7 @@ fn name_counts(d: Document) -> NameCounts
 }
 
 // The words of the pool.
-fn texts_words(d: Document, mem: &[u64]) -> &[u64]
+pub fn texts_words(d: Document, mem: &[u64]) -> &[u64]
     requires { ⌜ memoryOk d (length (now mem)) ≡ true ⌝ }
     ensures { λ r. ⌜ now r ≡ textsPart d (now (mem .entry)) ⌝ }
 {
@@ -71,7 +71,7 @@ fn texts_words(d: Document, mem: &[u64]) -> &[u64]
 }
 
 // The words of the table.
-fn names_words(d: Document, mem: &[u64]) -> &[u64]
+pub fn names_words(d: Document, mem: &[u64]) -> &[u64]
     requires { ⌜ memoryOk d (length (now mem)) ≡ true ⌝ }
     ensures { λ r. ⌜ now r ≡ namesPart d (now (mem .entry)) ⌝ }
 {
