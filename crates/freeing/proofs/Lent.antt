@@ -10,8 +10,8 @@ use lib.ListN.{length, take, drop}
 use lib.Seq.{length-take-le}
 use lib.Dec.{eqb}
 use Rattle.words.specs.Lists.{countOf}
-use Rattle.words.specs.Parts.{part, put}
-use Rattle.words.proofs.Parts.{lent, returned}
+use Rattle.words.specs.Parts.{put}
+use Rattle.words.proofs.Parts.{returned}
 use Rattle.texts.specs.Pool.{Pool, pushed, reclaimed}
 use Rattle.texts.specs.Words.{Counted, PushedTo, ReclaimedTo, poolOf}
 use Rattle.texts.specs.Words as lower
@@ -23,8 +23,8 @@ use Rattle.memory.specs.declared.layout.Document.{Document}
 use Rattle.memory.specs.Layout.{limitsOf, textsAt, memoryOk}
 use Rattle.memory.specs.Decode.{textLimits, textCounts, textsPart, decode}
 use Rattle.memory.specs.Step.{Step}
-use Rattle.memory.proofs.Limits.{limits-fit, memory-limits, memory-long, words-fit, names-next, words-next}
 use Rattle.memory.proofs.Shown.{pool-held}
+use Rattle.memory.proofs.Lent.{texts-lent}
 use Rattle.edits.specs.Pooled.{putTexts, withTexts, setPool}
 use Rattle.edits.proofs.Repooled.{texts-counted, texts-step}
 use Rattle.freeing.specs.Freed.{pushedAll}
@@ -32,37 +32,18 @@ use Rattle.freeing.specs.Asked.{Releasable, Reclaimable}
 
 -- ---- the words of the pool
 
--- where they end
-pub record TextsEnd (d : Document) (mem : ℕ) : Type 0 where
-  pub inside : textsAt (limitsOf (d .limits)) + (2 * d .limits .texts + d .limits .textbytes) ≤ mem
-  pub narrow : textsAt (limitsOf (d .limits)) + (2 * d .limits .texts + d .limits .textbytes) < 4294967296
-
-pub texts-end : (d : Document) (mem : ℕ) → memoryOk d mem ≡ true → TextsEnd d mem
-texts-end d mem ok =
-    let l = limitsOf (d .limits) in
-    let whole = memory-long d mem ok in
-    let narrow = words-fit l (limits-fit l (memory-limits d mem ok)) in
-    record { inside = omega (arith, names-next l, words-next l); narrow = omega (arith, names-next l, words-next l) }
-
 module _ (d : Document) (mem : List ℕ) (ok : memoryOk d (length mem) ≡ true) (fits : decode d mem .countsFit ≡ true) (adds : decode d mem .lengthsFit ≡ true) (start : ℕ) (e : start ≡ textsAt (limitsOf (d .limits))) where
   abbrev size : ℕ
   size = 2 * d .limits .texts + d .limits .textbytes
-
-  -- lent
-  abbrev pub lentTexts : List ℕ
-  lentTexts = take (start + (2 * d .limits .texts + d .limits .textbytes) - start) (drop start mem)
-
-  texts-lent : lentTexts ≡ textsPart d mem
-  texts-lent = lent mem start size ∙ ap (λ (x : ℕ). part x size mem) e
 
   counted : Counted (textLimits d) (textCounts d) (textsPart d mem)
   counted = texts-counted d mem ok fits adds
 
   pub lent-counted : Counted (textLimits d) (textCounts d) (take (start + (2 * d .limits .texts + d .limits .textbytes) - start) (drop start mem))
-  lent-counted = subst (λ (x : List ℕ). Counted (textLimits d) (textCounts d) x) (sym texts-lent) counted
+  lent-counted = subst (λ (x : List ℕ). Counted (textLimits d) (textCounts d) x) (sym (texts-lent d mem start e)) counted
 
   pub lent-pool : poolOf (textLimits d) (textCounts d) (take (start + (2 * d .limits .texts + d .limits .textbytes) - start) (drop start mem)) ≡ decode d mem .pool
-  lent-pool = ap (poolOf (textLimits d) (textCounts d)) texts-lent ∙ sym (pool-held d mem counted)
+  lent-pool = ap (poolOf (textLimits d) (textCounts d)) (texts-lent d mem start e) ∙ sym (pool-held d mem counted)
 
   -- and returned, as the words of another pool
   pub texts-returned : (t : TextCounts) (ys : List ℕ) → Counted (textLimits d) t ys → (P : Pool) → poolOf (textLimits d) t ys ≡ P → (after : Document) → after ≡ withTexts d t

@@ -4,15 +4,14 @@ use mathlib.Core.Path.{_≡_, refl, sym, ap, _∙_}
 use mathlib.Core.Bool.{Bool, true, false, cond, false≢true}
 use mathlib.Core.Option.{Option, none, some}
 use mathlib.Core.List.{List, [], _∷_}
-use Prim.Native.Nat.{ℕ, zero, suc, _+_, _-_, _*_, _≤_, _<_}
+use Prim.Native.Nat.{ℕ, zero, suc, _≤_, _<_}
 use native.Mathlib.Omega.{arith}
 use native.Mathlib.Decide.{decLt}
-use lib.ListN.{length, take, drop, List·getD-eq-default}
+use lib.ListN.{length, List·getD-eq-default}
 use lib.Dec.{eqb}
 use borrow.Author.Tests.{eqb-true}
 use Rattle.words.specs.declared.ends.Place.{Place}
 use Rattle.words.specs.Ends.{lengthOf}
-use Rattle.words.proofs.Parts.{lent}
 use Rattle.words.proofs.Tests.{and-left}
 use Rattle.slots.specs.Handles.{wordOf, handleIndex}
 use Rattle.slots.specs.declared.NodeId.{NodeId}
@@ -24,7 +23,9 @@ use Rattle.slots.specs.declared.TextSlot.{TextSlot}
 use Rattle.slots.specs.declared.Node.{Node}
 use Rattle.slots.specs.declared.Loaded.the-variants.{Found, NoNode}
 use Rattle.texts.specs.Pool.{Pool, slotsFor, textAt}
-use Rattle.texts.specs.Words.{poolOf, bytesAt, placeShown, countsFit}
+use Rattle.texts.specs.Words.{poolOf, placeShown, countsFit}
+use Rattle.texts.specs.declared.TextLimits.{TextLimits}
+use Rattle.texts.specs.declared.TextCounts.{TextCounts}
 use Rattle.texts.proofs.Places.{shown-nowhere}
 use Rattle.texts.proofs.Words.{pool-slots, shown-place, text-length, text-ends}
 use Rattle.model.specs.Kinds.{Kind, isRoot, replaceable}
@@ -36,9 +37,7 @@ use Rattle.model.specs.Checks.{aText, textUnder, checkSetText}
 use Rattle.model.specs.Calls.{fullUnless, underRoot, textFits, replacementFits, replaceableAt}
 use Rattle.model.proofs.Guards.{first-zero}
 use Rattle.memory.specs.declared.layout.Document.{Document}
-use Rattle.memory.specs.Layout.{limitsOf, textsAt}
 use Rattle.memory.specs.Decode.{slotOf, kindOf, handleOf, textLimits, textCounts, textsPart, resolvedIn, decode}
-use Rattle.memory.proofs.Limits.{limits-fit, words-fit, memory-limits, memory-long, names-next, words-next}
 use Rattle.memory.specs.Undamaged.{Undamaged}
 use Rattle.plans.proofs.Viewed.{root-kind, kindAt-found, resolves-stale}
 use Rattle.plans.proofs.Texts.{counted, pool-same, text-fits}
@@ -107,26 +106,10 @@ module _ (d : Document) (mem : List ℕ) (u : Undamaged d mem) where
           List·getD-eq-default (poolOf (textLimits d) (textCounts d) words .texts) [] {n = s} (omega (arith, pool-slots (textLimits d) (textCounts d) words (counted d mem u))) in
           (q ∙ sym (ap length (same ∙ z)), omega arith)
 
-  -- the pool, lent
-  module _ (start : ℕ) (e : start ≡ textsAt (limitsOf (d .limits))) where
-    pub texts-lent : take (start + (d .limits .texts + d .limits .texts + d .limits .textbytes) - start) (drop start mem) ≡ textsPart d mem
-    texts-lent =
-        let n : d .limits .texts + d .limits .texts + d .limits .textbytes ≡ 2 * d .limits .texts + d .limits .textbytes = omega arith in
-        lent mem start (d .limits .texts + d .limits .texts + d .limits .textbytes) ∙ rw (e, n)
-
-    pub texts-inside : (start + (d .limits .texts + d .limits .texts + d .limits .textbytes) ≤ length mem) × (start + (d .limits .texts + d .limits .texts + d .limits .textbytes) < 4294967296)
-    texts-inside =
-        let l = limitsOf (d .limits) in
-        let f = words-fit l (limits-fit l (memory-limits d (length mem) (u .memory))) in
-        (omega (arith, e, names-next l, words-next l, memory-long d (length mem) (u .memory)), omega (arith, e, names-next l, words-next l))
-
-    pub place-asked : length (take (start + (d .limits .texts + d .limits .texts + d .limits .textbytes) - start) (drop start mem)) ≡ bytesAt (textLimits d) + d .limits .textbytes
-    place-asked = ap length texts-lent ∙ counted d mem u .size
-
-    pub place-told : (s : ℕ) (p : Place)
-        → p ≡ placeShown (textLimits d) (textCounts d) s (take (start + (d .limits .texts + d .limits .texts + d .limits .textbytes) - start) (drop start mem))
-        → (p .len ≡ length (doc.bytesAt (decode d mem) (some s))) × (p .len ≤ d .counts .textbytes)
-    place-told s p q = old-length s p (q ∙ ap (placeShown (textLimits d) (textCounts d) s) texts-lent)
+  -- the pool lent, with its limits and counts
+  pub place-told : (l : TextLimits) (k : TextCounts) (w : List ℕ) → l ≡ textLimits d → k ≡ textCounts d → w ≡ textsPart d mem → (s : ℕ) (p : Place) → p ≡ placeShown l k s w
+      → (p .len ≡ length (doc.bytesAt (decode d mem) (some s))) × (p .len ≤ d .counts .textbytes)
+  place-told l k w el ek ew s p q = old-length s p (q ∙ rw (el, ek, ew))
 
   -- ---- Full
 

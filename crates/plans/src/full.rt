@@ -22,19 +22,19 @@ use memory::layout::Arena;
 use memory::layout::Document;
 use memory::layout::arena_at;
 use memory::layout::arena_limit;
-use memory::layout::names_at;
 use memory::read::arena_used;
 use memory::read::free;
 use memory::read::made;
 use memory::read::range_of;
 use memory::read::resolve;
-use names::NameCounts;
-use names::NameLimits;
+use memory::stored::name_counts;
+use memory::stored::name_limits;
+use memory::stored::names_words;
+use memory::stored::text_counts;
+use memory::stored::text_limits;
 use slots::Loaded;
 use slots::NodeId;
 use slots::Range;
-use texts::TextCounts;
-use texts::TextLimits;
 
 // A slot when one is free or can be made.
 pub fn slot_fits(d: Document) -> bool
@@ -90,18 +90,7 @@ pub fn texts_fit(d: Document, slots: usize, off: usize, on: usize) -> bool
     requires { ⌜ (d .counts .texts ≤ d .limits .texts) × (d .counts .textbytes ≤ d .limits .textbytes) × (off ≤ d .counts .textbytes) ⌝ }
     ensures { λ r. ⌜ r ≡ countsFit (textLimits d) (textCounts d) slots off on ⌝ }
 {
-    let l = d.limits;
-    let c = d.counts;
-    let limits = TextLimits {
-        slots: l.texts,
-        bytes: l.textbytes,
-    };
-    let counts = TextCounts {
-        slots: c.texts,
-        free: c.freetexts,
-        bytes: c.textbytes,
-    };
-    texts::texts_fit(limits, counts, slots, off, on)
+    texts::texts_fit(text_limits(d), text_counts(d), slots, off, on)
 }
 
 // A text stored empty takes no slot.
@@ -133,19 +122,13 @@ pub fn name_fits(d: Document, mem: &[u64], namespace: &[u8], local: &[u8]) -> bo
     requires { ⌜ Undamaged d (now mem) ⌝ }
     ensures { λ r. ⌜ r ≡ nameFitsIn (decode d (now (mem .entry))) (name (now (namespace .entry)) (now (local .entry))) ⌝ }
 {
-    let l = d.limits;
-    let c = d.counts;
-    let limits = NameLimits {
-        names: l.names,
-        bytes: l.namebytes,
-    };
-    let counts = NameCounts {
-        names: c.names,
-        bytes: c.namebytes,
-    };
-    let start = names_at(l);
-    let end = start + (l.names + l.names + l.namebytes);
-    names::interning::name_fits(&mem[start..end], limits, counts, namespace, local)
+    names::interning::name_fits(
+        names_words(d, mem),
+        name_limits(d),
+        name_counts(d),
+        namespace,
+        local,
+    )
 }
 
 // Full, of a new node with one text in the list of a live node.

@@ -24,16 +24,16 @@ use crate::verdict::is_accepted;
 use crate::views::a_text;
 use crate::views::is_root;
 use memory::layout::Document;
-use memory::layout::texts_at;
 use memory::read::resolve;
+use memory::stored::text_counts;
+use memory::stored::text_limits;
+use memory::stored::texts_words;
 use slots::Chars;
 use slots::Loaded;
 use slots::NodeData;
 use slots::NodeId;
 use slots::Parent;
 use slots::TextSlot;
-use texts::TextCounts;
-use texts::TextLimits;
 
 // Whether a live node's parent is the Root.
 pub fn under_root(d: Document, mem: &[u64], id: NodeId) -> bool
@@ -80,21 +80,13 @@ fn text_length(d: Document, mem: &[u64], slot: TextSlot) -> usize
     requires { ⌜ Undamaged d (now mem) ⌝ }
     ensures { λ r. ⌜ (r ≡ length (bytesAt (decode d (now (mem .entry))) (some (slot .0)))) × (r ≤ d .counts .textbytes) ⌝ }
 {
-    let l = d.limits;
-    let c = d.counts;
-    let limits = TextLimits {
-        slots: l.texts,
-        bytes: l.textbytes,
-    };
-    let counts = TextCounts {
-        slots: c.texts,
-        free: c.freetexts,
-        bytes: c.textbytes,
-    };
-    let start = texts_at(l);
-    let end = start + (l.texts + l.texts + l.textbytes);
     let number = slot.0;
-    let place = texts::text_place(&mem[start..end], limits, counts, number as usize);
+    let place = texts::text_place(
+        texts_words(d, mem),
+        text_limits(d),
+        text_counts(d),
+        number as usize,
+    );
     place.len
 }
 

@@ -3,7 +3,8 @@
 use native.Mathlib.Omega.{arith}
 use lib.ListN.{length}
 use Rattle.memory.proofs.Limits.{memory-limits}
-use Rattle.freeing.proofs.Lent.{texts-end, slot-pushable, slot-pushed}
+use Rattle.memory.proofs.Lent.{ends}
+use Rattle.freeing.proofs.Lent.{slot-pushable, slot-pushed}
 use borrow.Author.Needs.{needs}
 use Rattle.freeing.proofs.release.push_slot.Statement.{statement}
 use Rattle.freeing.proofs.release.push_slot.Tie as tie
@@ -16,25 +17,25 @@ texts-at-requires c κs =
 mul-end : tie.Need-mul-end
 mul-end c =
     let s = c .before .before .before .before .before in
-    let z = texts-end (s .args .d) (length (s .args .mem .now)) (s .pre .0) in
+    let z = ends (s .args .d) (length (s .args .mem .now)) (s .pre .0) in
     omega (arith, c .before .texts-at .ensures)
 
 add-end : tie.Need-add-end
 add-end c =
     let s = c .before .before .before .before .before .before in
-    let z = texts-end (s .args .d) (length (s .args .mem .now)) (s .pre .0) in
+    let z = ends (s .args .d) (length (s .args .mem .now)) (s .pre .0) in
     omega (arith, c .before .before .texts-at .ensures)
 
 add-end-2 : tie.Need-add-end-2
 add-end-2 c =
     let s = c .before .before .before .before .before .before in
-    let z = texts-end (s .args .d) (length (s .args .mem .now)) (s .pre .0) in
+    let z = ends (s .args .d) (length (s .args .mem .now)) (s .pre .0) in
     omega (arith, c .before .before .texts-at .ensures)
 
 mul-push-slot : tie.Need-mul-push-slot
 mul-push-slot c =
     let s = c .before .before .before .before .before .before in
-    let z = texts-end (s .args .d) (length (s .args .mem .now)) (s .pre .0) in
+    let z = ends (s .args .d) (length (s .args .mem .now)) (s .pre .0) in
     omega (arith, c .before .before .texts-at .ensures)
 
 sub-push-slot : tie.Need-sub-push-slot
@@ -46,7 +47,7 @@ part-push-slot-start c = search needs
 part-push-slot-end : tie.Need-part-push-slot-end
 part-push-slot-end c =
     let s = c .before .before .before .before .before .before in
-    let z = texts-end (s .args .d) (length (s .args .mem .now)) (s .pre .0) in
+    let z = ends (s .args .d) (length (s .args .mem .now)) (s .pre .0) in
     omega (arith, c .before .before .texts-at .ensures)
 
 cast-push-slot : tie.Need-cast-push-slot

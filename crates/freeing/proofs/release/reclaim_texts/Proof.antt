@@ -3,7 +3,8 @@
 use native.Mathlib.Omega.{arith}
 use lib.ListN.{length}
 use Rattle.memory.proofs.Limits.{memory-limits}
-use Rattle.freeing.proofs.Lent.{texts-end, marks-inside, marks-lent, texts-reclaimable, texts-reclaimed}
+use Rattle.memory.proofs.Lent.{ends}
+use Rattle.freeing.proofs.Lent.{marks-inside, marks-lent, texts-reclaimable, texts-reclaimed}
 use borrow.Author.Needs.{needs}
 use Rattle.freeing.proofs.release.reclaim_texts.Statement.{statement}
 use Rattle.freeing.proofs.release.reclaim_texts.Tie as tie
@@ -19,19 +20,19 @@ mul-end c = search needs
 add-end : tie.Need-add-end
 add-end c =
     let s = c .before .before .before .before .before .before .before in
-    let z = texts-end (s .args .d) (length (s .args .mem .now)) (s .pre .0) in
+    let z = ends (s .args .d) (length (s .args .mem .now)) (s .pre .0) in
     omega (arith, c .before .before .texts-at .ensures)
 
 add-end-2 : tie.Need-add-end-2
 add-end-2 c =
     let s = c .before .before .before .before .before .before .before in
-    let z = texts-end (s .args .d) (length (s .args .mem .now)) (s .pre .0) in
+    let z = ends (s .args .d) (length (s .args .mem .now)) (s .pre .0) in
     omega (arith, c .before .before .texts-at .ensures)
 
 mul-reclaim : tie.Need-mul-reclaim
 mul-reclaim c =
     let s = c .before .before .before .before .before .before .before in
-    let z = texts-end (s .args .d) (length (s .args .mem .now)) (s .pre .0) in
+    let z = ends (s .args .d) (length (s .args .mem .now)) (s .pre .0) in
     omega (arith, c .before .before .texts-at .ensures)
 
 sub-reclaim : tie.Need-sub-reclaim
@@ -43,7 +44,7 @@ part-reclaim-start c = search needs
 part-reclaim-end : tie.Need-part-reclaim-end
 part-reclaim-end c =
     let s = c .before .before .before .before .before .before .before in
-    let z = texts-end (s .args .d) (length (s .args .mem .now)) (s .pre .0) in
+    let z = ends (s .args .d) (length (s .args .mem .now)) (s .pre .0) in
     omega (arith, c .before .before .texts-at .ensures)
 
 sub-reclaim-2 : tie.Need-sub-reclaim-2
