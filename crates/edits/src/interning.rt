@@ -10,8 +10,9 @@ ghost use Rattle.edits.specs.Stores.{Internable};
 use memory::layout::Counts;
 use memory::layout::Document;
 use memory::layout::names_at;
+use memory::stored::name_counts;
+use memory::stored::name_limits;
 use names::NameCounts;
-use names::NameLimits;
 use names::interning::Interned;
 use slots::NameId;
 
@@ -52,16 +53,9 @@ fn write_name(d: Document, mem: &mut [u64], namespace: &[u8], local: &[u8]) -> I
     ensures { λ r. ⌜ InternedTo (nameLimits d) (nameCounts d) (namesPart d (now (mem .entry))) (namesPart d (now (mem .exit))) (name (now (namespace .entry)) (now (local .entry))) r ⌝ }
     ensures { λ _. ⌜ now (mem .exit) ≡ putNames d (namesPart d (now (mem .exit))) (now (mem .entry)) ⌝ }
 {
+    let limits = name_limits(d);
+    let counts = name_counts(d);
     let l = d.limits;
-    let c = d.counts;
-    let limits = NameLimits {
-        names: l.names,
-        bytes: l.namebytes,
-    };
-    let counts = NameCounts {
-        names: c.names,
-        bytes: c.namebytes,
-    };
     let start = names_at(l);
     let end = start + (l.names + l.names + l.namebytes);
     names::interning::intern(&mut mem[start..end], limits, counts, namespace, local)

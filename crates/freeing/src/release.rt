@@ -16,13 +16,13 @@ ghost use Rattle.freeing.specs.Freed.{textsIn, pushedAll};
 ghost use Rattle.freeing.specs.Asked.{Releasable, Reclaimable};
 use edits::storing::with_texts;
 use memory::layout::Document;
+use memory::stored::text_counts;
+use memory::stored::text_limits;
 use slots::Chars;
 use slots::Loaded;
 use slots::NodeData;
 use slots::NodeSlot;
 use slots::TextSlot;
-use texts::TextCounts;
-use texts::TextLimits;
 
 // The text fields of a node: one that it does not have is empty.
 pub struct HeldTexts {
@@ -35,17 +35,9 @@ fn push_slot(d: Document, mem: &mut [u64], slot: TextSlot) -> Document
     requires { ⌜ (memoryOk d (length (now mem)) ≡ true) × Releasable (decode d (now mem)) (some (slot .0) ∷ []) ⌝ }
     ensures { λ r. ⌜ Step d (now (mem .entry)) r (now (mem .exit)) (setPool (decode d (now (mem .entry))) (pushedAll (decode d (now (mem .entry)) .pool) (some (slot .0) ∷ []))) ⌝ }
 {
+    let limits = text_limits(d);
+    let counts = text_counts(d);
     let l = d.limits;
-    let c = d.counts;
-    let limits = TextLimits {
-        slots: l.texts,
-        bytes: l.textbytes,
-    };
-    let counts = TextCounts {
-        slots: c.texts,
-        free: c.freetexts,
-        bytes: c.textbytes,
-    };
     let start = memory::layout::texts_at(l);
     let end = start + (2 * l.texts + l.textbytes);
     let number = slot.0;
@@ -130,17 +122,10 @@ pub fn reclaim_texts(d: Document, mem: &mut [u64], scratch: &mut [u64]) -> Docum
     requires { ⌜ (memoryOk d (length (now mem)) ≡ true) × (d .limits .texts ≤ length (now scratch)) × Reclaimable (decode d (now mem)) ⌝ }
     ensures { λ r. ⌜ Step d (now (mem .entry)) r (now (mem .exit)) (setPool (decode d (now (mem .entry))) (reclaimed (decode d (now (mem .entry)) .pool))) ⌝ }
 {
+    let limits = text_limits(d);
+    let counts = text_counts(d);
     let l = d.limits;
     let c = d.counts;
-    let limits = TextLimits {
-        slots: l.texts,
-        bytes: l.textbytes,
-    };
-    let counts = TextCounts {
-        slots: c.texts,
-        free: c.freetexts,
-        bytes: c.textbytes,
-    };
     let start = memory::layout::texts_at(l);
     let end = start + (2 * l.texts + l.textbytes);
     let marks = c.texts;

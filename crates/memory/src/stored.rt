@@ -1,4 +1,4 @@
-// The bytes of stored texts and names, one a word, as parts of the memory: what is shown of them, also in damaged memory.
+// What the layers of texts and of names are handed, and the bytes that they show, one a word, as parts of the memory, also in damaged memory.
 ghost use mathlib.Core.Path.{_≡_};
 ghost use mathlib.Core.Bool.{true};
 ghost use mathlib.Core.Option.{some};

@@ -9,9 +9,15 @@ use borrow.Author.Needs.{needs}
 use Rattle.freeing.proofs.release.reclaim_texts.Statement.{statement}
 use Rattle.freeing.proofs.release.reclaim_texts.Tie as tie
 
+text-limits-requires : tie.Need-text-limits-requires
+text-limits-requires c κs = search needs
+
+text-counts-requires : tie.Need-text-counts-requires
+text-counts-requires c κs = search needs
+
 texts-at-requires : tie.Need-texts-at-requires
 texts-at-requires c κs =
-    let s = c .before .before .before .before in
+    let s = c .before .before .before .before .before .before in
     memory-limits (s .args .d) (length (s .args .mem .now)) (s .pre .0)
 
 mul-end : tie.Need-mul-end
@@ -19,19 +25,19 @@ mul-end c = search needs
 
 add-end : tie.Need-add-end
 add-end c =
-    let s = c .before .before .before .before .before .before .before in
+    let s = c .before .before .before .before .before .before .before .before .before in
     let z = ends (s .args .d) (length (s .args .mem .now)) (s .pre .0) in
     omega (arith, c .before .before .texts-at .ensures)
 
 add-end-2 : tie.Need-add-end-2
 add-end-2 c =
-    let s = c .before .before .before .before .before .before .before in
+    let s = c .before .before .before .before .before .before .before .before .before in
     let z = ends (s .args .d) (length (s .args .mem .now)) (s .pre .0) in
     omega (arith, c .before .before .texts-at .ensures)
 
 mul-reclaim : tie.Need-mul-reclaim
 mul-reclaim c =
-    let s = c .before .before .before .before .before .before .before in
+    let s = c .before .before .before .before .before .before .before .before .before in
     let z = ends (s .args .d) (length (s .args .mem .now)) (s .pre .0) in
     omega (arith, c .before .before .texts-at .ensures)
 
@@ -43,7 +49,7 @@ part-reclaim-start c = search needs
 
 part-reclaim-end : tie.Need-part-reclaim-end
 part-reclaim-end c =
-    let s = c .before .before .before .before .before .before .before in
+    let s = c .before .before .before .before .before .before .before .before .before in
     let z = ends (s .args .d) (length (s .args .mem .now)) (s .pre .0) in
     omega (arith, c .before .before .texts-at .ensures)
 
@@ -55,14 +61,14 @@ part-reclaim-start-2 c = search needs
 
 part-reclaim-end-2 : tie.Need-part-reclaim-end-2
 part-reclaim-end-2 c =
-    let s = c .before .before .before .before .before .before .before .before in
+    let s = c .before .before .before .before .before .before .before .before .before .before in
     marks-inside (s .args .d) (s .args .mem .now) (s .pre .0) (s .pre .2) (s .args .scratch .now) (s .pre .1)
 
 reclaim-requires : tie.Need-reclaim-requires
 reclaim-requires c κs =
-    let s = c .before .before .before .before .before .before .before .before .before in
+    let s = c .before .before .before .before .before .before .before .before .before .before .before in
     let a = s .args in
-    (texts-reclaimable (a .d) (a .mem .now) (s .pre .0) (s .pre .2) _ (c .before .before .before .before .texts-at .ensures), marks-lent (a .d) (a .mem .now) (s .pre .0) (s .pre .2) (a .scratch .now) (s .pre .1))
+    rw (c .before .before .before .before .before .before .before .before .text-limits .ensures, c .before .before .before .before .before .before .before .text-counts .ensures) (texts-reclaimable (a .d) (a .mem .now) (s .pre .0) (s .pre .2) _ (c .before .before .before .before .texts-at .ensures), marks-lent (a .d) (a .mem .now) (s .pre .0) (s .pre .2) (a .scratch .now) (s .pre .1))
 
 with-texts-requires : tie.Need-with-texts-requires
 with-texts-requires c κs = search needs
@@ -75,15 +81,17 @@ same-length-2 c = search needs
 
 returns : tie.Need-returns
 returns c =
-    let s = c .before .before .before .before .before .before .before .before .before .before .before .before .before .before .before in
+    let s = c .before .before .before .before .before .before .before .before .before .before .before .before .before .before .before .before .before in
     let a = s .args in
     let got = c .before .before .before .before .before .reclaim in
-    texts-reclaimed (a .d) (a .mem .now) (s .pre .0) (s .pre .2) _ (c .before .before .before .before .before .before .before .before .before .before .texts-at .ensures) (got .result) _ (got .ensures) _ (c .with-texts .ensures)
+    texts-reclaimed (a .d) (a .mem .now) (s .pre .0) (s .pre .2) _ (c .before .before .before .before .before .before .before .before .before .before .texts-at .ensures) (got .result) _ (rw (c .before .before .before .before .before .before .before .before .before .before .before .before .before .before .text-limits .ensures, c .before .before .before .before .before .before .before .before .before .before .before .before .before .text-counts .ensures) at (got .ensures)) _ (c .with-texts .ensures)
 
 pub reclaim-texts-spec : {M : Type 1} → statement M
 reclaim-texts-spec =
     tie.close
     (tie.spec
+    text-limits-requires
+    text-counts-requires
     texts-at-requires
     mul-end
     add-end
