@@ -132,6 +132,9 @@ module _ (d : Document) (mem : List ℕ) where
           ap (λ (t : Bool). t && (eqb (getD mem (handleIndex h) 0 % 2) 0 && eqb (getD mem (handleIndex h) 0) (handleGeneration h))) (le-ltb (handleIndex h) (slotsMade d) (omega arith))
           ∙ sym (ap (λ (t : Bool). t && eqb (doc.generationAt D (handleIndex h)) (handleGeneration h)) (columns.live-past noTexts [] true d mem (handleIndex h) (omega arith)))
 
+  pub resolves-word : wordsHold d mem ≡ true → (h made : ℕ) → made ≡ slotsMade d → (r : Bool) → r ≡ currentWord made mem h → r ≡ resolves (decodeNodes d mem) h
+  resolves-word ok h made e r q = q ∙ ap (λ (n : ℕ). currentWord n mem h) e ∙ current-words ok h
+
   module _ (s : ℕ) (l : liveSlot (decodeNodes d mem) s ≡ true) where
     word-read : (k : ℕ) → k < 12 → getD mem (at s + k) 0 ≡ recordWord d mem s k
     word-read k b = record-word d mem s k (live-below d mem s l) b

@@ -56,23 +56,6 @@ module _ (d : Document) (mem : List ℕ) where
       go (no v) =
           rw same (ne-eqb (generationAt n w s % 2) 0 v ∙ sym (columns.live-in noTexts [] true d mem s b ∙ rw (ne-eqb (generationAt n w s % 2) 0 v)))
 
-  -- ---- a handle
-
-  module _ (handle : ℕ) where
-    pub handle-past : (made : ℕ) → made ≡ slotsMade d → made ≤ handle % 4294967296 → false ≡ resolves (decodeNodes d mem) handle
-    handle-past made e h =
-        sym (ap (λ (t : Bool). t && eqb (doc.generationAt D (handleIndex handle)) (handleGeneration handle)) (columns.live-past noTexts [] true d mem (handleIndex handle) (omega arith)))
-
-    module _ (t : Bool) (q : t ≡ liveSlot (decodeNodes d mem) (handle % 4294967296)) where
-      pub handle-free : t ≡ false → false ≡ resolves (decodeNodes d mem) handle
-      handle-free f = sym (ap (λ (u : Bool). u && eqb (doc.generationAt D (handleIndex handle)) (handleGeneration handle)) (sym q ∙ f))
-
-    pub handle-live : (made : ℕ) → made ≡ slotsMade d → handle % 4294967296 < made → (t : Bool) → t ≡ liveSlot (decodeNodes d mem) (handle % 4294967296) → t ≡ true
-        → eqb (getD mem (handle % 4294967296) 0) (handle / 4294967296) ≡ resolves (decodeNodes d mem) handle
-    handle-live made e h t q f =
-        ap (λ (g : ℕ). eqb g (handleGeneration handle)) (generation-word d mem (handleIndex handle) (omega arith) ∙ sym (columns.generation-in noTexts [] true d mem (handleIndex handle) (omega arith)))
-        ∙ sym (ap (λ (u : Bool). u && eqb (doc.generationAt D (handleIndex handle)) (handleGeneration handle)) (sym q ∙ f))
-
 -- the node of a handle that resolves is live
 pub current-live : (D : Doc) (handle : ℕ) (t : Bool) → t ≡ resolves D handle → t ≡ true → liveSlot D (handle % 4294967296) ≡ true
 current-live D handle t e y = and-left (liveSlot D (handleIndex handle)) (eqb (doc.generationAt D (handleIndex handle)) (handleGeneration handle)) (sym e ∙ y)

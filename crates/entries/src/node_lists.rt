@@ -1,7 +1,7 @@
 // Rule 4: each entry of each live node's lists is tested where it stands and counted in the mark of its slot; then each live node with a parent is
 // to have been counted once. What is done for each entry takes plain numbers: the record of the document is read once a slot.
 ghost use mathlib.Core.Path.{_≡_};
-ghost use mathlib.Core.Bool.{true, _&&_};
+ghost use mathlib.Core.Bool.{true};
 ghost use mathlib.Core.List.{[], _∷_, map};
 ghost use Prim.Native.Nat.{_+_, _*_, _<_, _≤_};
 ghost use lib.ListN.{length, getD, replicate};
@@ -15,8 +15,10 @@ ghost use Rattle.memory.specs.Layout.{memoryOk};
 ghost use Rattle.memory.specs.Decode.{slotsMade};
 ghost use Rattle.entries.specs.Nodes.{decodeNodes, wordsHold};
 ghost use Rattle.entries.specs.Marks.{Pass, gathered};
-ghost use Rattle.entries.specs.Entering.{kindList, currentWord, parentWords, wordsEnter, listsEnter, slotsNamed, markedOnce};
+ghost use Rattle.entries.specs.Entering.{kindList, parentWords, wordsEnter, listsEnter, slotsNamed, markedOnce};
+use crate::nodes::both;
 use crate::nodes::count;
+use crate::nodes::current_word;
 use crate::nodes::handle_of;
 use crate::nodes::is_live;
 use memory::fields::has_no_parent;
@@ -24,13 +26,6 @@ use memory::layout::Arena;
 use memory::layout::Document;
 use memory::layout::arena_at;
 use memory::read::made;
-
-// A call in place of &&: no branch stands between the tests.
-fn both(a: bool, b: bool) -> bool
-    ensures { λ r. ⌜ r ≡ (a && b) ⌝ }
-{
-    if a { b } else { false }
-}
 
 // The list of its parent that a node of a kind stands in.
 fn list_number(kind: u64) -> u64
@@ -41,18 +36,6 @@ fn list_number(kind: u64) -> u64
         5 => 2,
         _ => 0,
     }
-}
-
-// Whether a handle resolves, by the slots' generations, which the memory starts with.
-fn is_current(mem: &[u64], made: usize, handle: u64) -> bool
-    requires { ⌜ made ≤ length (now mem) ⌝ }
-    ensures { λ r. ⌜ r ≡ currentWord made (now (mem .entry)) handle ⌝ }
-{
-    let s = (handle % 4294967296) as usize;
-    if s >= made {
-        return false;
-    }
-    both(mem[s] % 2 == 0, mem[s] == handle / 4294967296)
 }
 
 // Whether the record that starts at an index has owner as its parent.
@@ -71,7 +54,7 @@ fn entry_holds(mem: &[u64], nodes: usize, made: usize, list: u64, owner: u64, en
     requires { ⌜ (15 * nodes ≤ length (now mem)) × (made ≤ nodes) ⌝ }
     ensures { λ r. ⌜ r ≡ wordsEnter nodes made (now (mem .entry)) list owner entry ⌝ }
 {
-    if is_current(mem, made, entry) {
+    if current_word(mem, made, entry) {
         let at = nodes * 2 + (entry % 4294967296) as usize * 12;
         both(has_parent(mem, at, owner), list_number(mem[at]) == list)
     } else {

@@ -1,13 +1,14 @@
 // What the checks read of a slot: single words, where rule 1 holds of them; and the marks that count.
 ghost use mathlib.Core.Path.{_≡_};
-ghost use mathlib.Core.Bool.{true};
-ghost use Prim.Native.Nat.{_<_};
+ghost use mathlib.Core.Bool.{true, _&&_};
+ghost use Prim.Native.Nat.{_<_, _≤_};
 ghost use lib.ListN.{length, getD, set};
 ghost use Rattle.model.specs.Doc.{handleAt, liveSlot, resolves, kindIn, parentIn, rangeIn};
 ghost use Rattle.memory.specs.Layout.{memoryOk, whichOf};
 ghost use Rattle.memory.specs.Decode.{blockOf, handleOf, slotOf, slotsMade};
 ghost use Rattle.entries.specs.Nodes.{decodeNodes, wordsHold, recordWord, kindNumber, nameNumber, firstSlot, secondSlot};
 ghost use Rattle.entries.specs.Marks.{raised};
+ghost use Rattle.entries.specs.Entering.{currentWord};
 use memory::fields::live_block;
 use memory::fields::live_parent;
 use memory::fields::record_word;
@@ -27,20 +28,31 @@ pub fn is_live(d: Document, mem: &[u64], s: usize) -> bool
     mem[s] % 2 == 0
 }
 
-// Whether a handle resolves, where rule 1 holds of the slots' words.
+// A call in place of &&: no branch stands between the tests.
+pub fn both(a: bool, b: bool) -> bool
+    ensures { λ r. ⌜ r ≡ (a && b) ⌝ }
+{
+    if a { b } else { false }
+}
+
+// Whether a handle resolves, by the slots' generations, which the memory starts with.
+pub fn current_word(mem: &[u64], made: usize, handle: u64) -> bool
+    requires { ⌜ made ≤ length (now mem) ⌝ }
+    ensures { λ r. ⌜ r ≡ currentWord made (now (mem .entry)) handle ⌝ }
+{
+    let s = (handle % 4294967296) as usize;
+    if s >= made {
+        return false;
+    }
+    both(mem[s] % 2 == 0, mem[s] == handle / 4294967296)
+}
+
+// The same where rule 1 holds of the slots' words.
 pub fn is_current(d: Document, mem: &[u64], handle: u64) -> bool
     requires { ⌜ (memoryOk d (length (now mem)) ≡ true) × (wordsHold d (now mem) ≡ true) ⌝ }
     ensures { λ r. ⌜ r ≡ resolves (decodeNodes d (now (mem .entry))) handle ⌝ }
 {
-    let s = (handle % 4294967296) as usize;
-    if s >= made(d) {
-        return false;
-    }
-    if is_live(d, mem, s) {
-        mem[s] == handle / 4294967296
-    } else {
-        false
-    }
+    current_word(mem, made(d), handle)
 }
 
 // The number of a live slot's kind.

@@ -15,4 +15,3 @@ pub mod Moved
 pub mod Found
 pub mod Refusing
 pub mod Planned
-pub mod Admitting

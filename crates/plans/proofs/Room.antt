@@ -1,7 +1,7 @@
 -- What Full asks, over plain values: slots, and the entries of a live node's block.
 -- Assumes nothing.
 use mathlib.Core.Path.{_≡_, refl, sym, ap, _∙_}
-use mathlib.Core.Bool.{Bool, true, false, _&&_, _||_, cond, false≢true}
+use mathlib.Core.Bool.{Bool, true, false, _&&_, _||_, cond, and-true, false≢true}
 use mathlib.Core.List.{List, [], _∷_}
 use Prim.Native.Nat.{ℕ, _+_, _-_, _<_}
 use native.Mathlib.Omega.{arith}
@@ -98,10 +98,6 @@ module _ (d : Document) (mem : List ℕ) (h : NodeId) (hi : h .index < 429496729
 
 both-yes : (t a s r u : Bool) → t ≡ (a && r) → t ≡ true → u ≡ s → u ≡ (a && (s && r))
 both-yes t true s true u e h k = k ∙ sym (and-true s)
-  where
-    and-true : (b : Bool) → (b && true) ≡ b
-    and-true true = refl
-    and-true false = refl
 both-yes t true s false u e h k = absurd (false≢true (sym e ∙ h))
 both-yes t false s r u e h k = absurd (false≢true (sym e ∙ h))
 

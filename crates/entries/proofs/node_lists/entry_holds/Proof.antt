@@ -6,8 +6,8 @@ use Rattle.entries.proofs.EntryWords.{current-made, entry-current, entr
 use Rattle.entries.proofs.node_lists.entry_holds.Statement.{statement}
 use Rattle.entries.proofs.node_lists.entry_holds.Tie as tie
 
-is-current-requires : tie.Need-is-current-requires
-is-current-requires c κs = omega (arith, c .before .pre .0, c .before .pre .1)
+current-word-requires : tie.Need-current-word-requires
+current-word-requires c κs = omega (arith, c .before .pre .0, c .before .pre .1)
 
 mul-at : tie.Need-mul-at
 mul-at c = omega (arith, c .before .before .before .pre .0)
@@ -19,13 +19,13 @@ add-at : tie.Need-add-at
 add-at c = omega (arith, c .before .before .before .pre .0)
 
 has-parent-requires : tie.Need-has-parent-requires
-has-parent-requires c κs = omega (arith, c .before .before .before .pre .0, c .before .before .before .pre .1, current-made (c .before .before .before .args .made) (c .before .before .before .args .mem .now) (c .before .before .before .args .entry) (sym (c .before .is-current .ensures) ∙ c .if1 .taken))
+has-parent-requires c κs = omega (arith, c .before .before .before .pre .0, c .before .before .before .pre .1, current-made (c .before .before .before .args .made) (c .before .before .before .args .mem .now) (c .before .before .before .args .entry) (sym (c .before .current-word .ensures) ∙ c .if1 .taken))
 
 mul-list-number : tie.Need-mul-list-number
-mul-list-number c = omega (arith, c .before .before .before .before .pre .0, c .before .before .before .before .pre .1, current-made (c .before .before .before .before .args .made) (c .before .before .before .before .args .mem .now) (c .before .before .before .before .args .entry) (sym (c .before .before .is-current .ensures) ∙ c .before .if1 .taken))
+mul-list-number c = omega (arith, c .before .before .before .before .pre .0, c .before .before .before .before .pre .1, current-made (c .before .before .before .before .args .made) (c .before .before .before .before .args .mem .now) (c .before .before .before .before .args .entry) (sym (c .before .before .current-word .ensures) ∙ c .before .if1 .taken))
 
 shared-slice-read-list-number : tie.Need-shared-slice-read-list-number
-shared-slice-read-list-number c = omega (arith, c .before .before .before .before .before .pre .0, c .before .before .before .before .before .pre .1, current-made (c .before .before .before .before .before .args .made) (c .before .before .before .before .before .args .mem .now) (c .before .before .before .before .before .args .entry) (sym (c .before .before .before .is-current .ensures) ∙ c .before .before .if1 .taken))
+shared-slice-read-list-number c = omega (arith, c .before .before .before .before .before .pre .0, c .before .before .before .before .before .pre .1, current-made (c .before .before .before .before .before .args .made) (c .before .before .before .before .before .args .mem .now) (c .before .before .before .before .before .args .entry) (sym (c .before .before .before .current-word .ensures) ∙ c .before .before .if1 .taken))
 
 list-number-requires : tie.Need-list-number-requires
 list-number-requires c κs = tt
@@ -36,13 +36,13 @@ both-requires c κs = tt
 returns : tie.Need-returns
 returns c =
     let a = c .before .before .before .before .before .before .before .args in
-    entry-current (a .nodes) (a .made) (a .mem .now) (a .list) (a .owner) (a .entry) _ (c .before .before .before .before .before .is-current .ensures) (c .before .before .before .before .if1 .taken) _ _ (c .before .before .before .has-parent .ensures) (c .before .list-number .ensures) _ (c .both .ensures)
+    entry-current (a .nodes) (a .made) (a .mem .now) (a .list) (a .owner) (a .entry) _ (c .before .before .before .before .before .current-word .ensures) (c .before .before .before .before .if1 .taken) _ _ (c .before .before .before .has-parent .ensures) (c .before .list-number .ensures) _ (c .both .ensures)
 
 returns-2 : tie.Need-returns-2
 returns-2 c =
     let a = c .before .before .before .args in
-    entry-stale (a .nodes) (a .made) (a .mem .now) (a .list) (a .owner) (a .entry) _ (c .before .is-current .ensures) (c .if1 .left)
+    entry-stale (a .nodes) (a .made) (a .mem .now) (a .list) (a .owner) (a .entry) _ (c .before .current-word .ensures) (c .if1 .left)
 
 pub entry-holds-spec : {M : Type 1} → statement M
 entry-holds-spec =
-    tie.close (tie.spec is-current-requires mul-at mul-at-2 add-at has-parent-requires mul-list-number shared-slice-read-list-number list-number-requires both-requires returns returns-2)
+    tie.close (tie.spec current-word-requires mul-at mul-at-2 add-at has-parent-requires mul-list-number shared-slice-read-list-number list-number-requires both-requires returns returns-2)

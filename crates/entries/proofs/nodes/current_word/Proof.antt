@@ -1,9 +1,9 @@
--- `entries::node_lists::is_current` meets its contract.
+-- `entries::nodes::current_word` meets its contract.
 -- Assumes nothing.
 use Rattle.entries.proofs.EntryWords.{past-current, made-current}
 use borrow.Author.Needs.{needs}
-use Rattle.entries.proofs.node_lists.is_current.Statement.{statement}
-use Rattle.entries.proofs.node_lists.is_current.Tie as tie
+use Rattle.entries.proofs.nodes.current_word.Statement.{statement}
+use Rattle.entries.proofs.nodes.current_word.Tie as tie
 
 returns : tie.Need-returns
 returns c = past-current _ _ _ (c .if1 .taken)
@@ -28,6 +28,6 @@ returns-2 c =
     let a = c .before .before .before .before .before .args in
     made-current (a .made) (a .mem .now) (a .handle) (c .before .before .before .if1 .left) _ (c .both .ensures)
 
-pub is-current-spec : {M : Type 1} → statement M
-is-current-spec =
+pub current-word-spec : {M : Type 1} → statement M
+current-word-spec =
     tie.close (tie.spec returns mul-both shared-slice-read-both mul-both-2 shared-slice-read-both-2 both-requires returns-2)
