@@ -6,11 +6,11 @@ ghost use Rattle.slots.specs.Handles.{wordOf};
 ghost use Rattle.slots.specs.declared.Loaded.the-variants.{Found};
 ghost use Rattle.texts.specs.Pool.{replaced};
 ghost use Rattle.texts.specs.Words.{ReplacedTo};
-ghost use Rattle.model.specs.Kinds.{replaceable, withText};
-ghost use Rattle.model.specs.Doc.{orElse, kindAt};
+ghost use Rattle.model.specs.Kinds.{withText};
+ghost use Rattle.model.specs.Doc.{kindAt};
 ghost use Rattle.model.specs.Edits.{setKind};
 ghost use Rattle.model.specs.Calls.{set-text, done, withReplaced, replaceableAt};
-ghost use Rattle.memory.specs.Decode.{slotOf, kindOf, loadedAt, slotsPart, textLimits, textCounts, textsPart, decode};
+ghost use Rattle.memory.specs.Decode.{slotOf, loadedAt, slotsPart, textLimits, textCounts, textsPart, decode};
 ghost use Rattle.memory.specs.Step.{Step};
 ghost use Rattle.memory.specs.Performed.{Admitted, Performed};
 ghost use Rattle.edits.specs.Asked.{NodeHeld};
@@ -22,6 +22,7 @@ use crate::storing::with_texts;
 use memory::layout::Document;
 use memory::layout::texts_at;
 use memory::stored::text_counts;
+use memory::stored::text_field;
 use memory::stored::text_limits;
 use slots::Chars;
 use slots::Loaded;
@@ -31,21 +32,6 @@ use slots::NodeId;
 use slots::NodeSlot;
 use slots::TextSlot;
 use texts::TextCounts;
-
-// The text that can be replaced: the content, the value, the URI.
-fn text_field(data: NodeData) -> Chars
-    ensures { λ r. ⌜ slotOf r ≡ orElse none (replaceable (kindOf «data»)) ⌝ }
-{
-    match data {
-        NodeData::Root => Chars::Empty,
-        NodeData::Element { .. } => Chars::Empty,
-        NodeData::Attr { value, .. } => value,
-        NodeData::Text(content) => content,
-        NodeData::Comment(_) => Chars::Empty,
-        NodeData::Namespace { uri, .. } => uri,
-        NodeData::ProcessingInstruction { .. } => Chars::Empty,
-    }
-}
 
 fn with_field(data: NodeData, field: Chars) -> NodeData
     ensures { λ r. ⌜ r ≡ withField «data» field ⌝ }

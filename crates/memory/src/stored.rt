@@ -1,11 +1,13 @@
 // What the layers of texts and of names are handed, and the bytes that they show, one a word, as parts of the memory, also in damaged memory.
 ghost use mathlib.Core.Path.{_≡_};
 ghost use mathlib.Core.Bool.{true};
-ghost use mathlib.Core.Option.{some};
+ghost use mathlib.Core.Option.{none, some};
 ghost use lib.ListN.{length};
 ghost use Rattle.names.specs.Words.{nameThere};
+ghost use Rattle.model.specs.Kinds.{replaceable};
+ghost use Rattle.model.specs.Doc.{orElse};
 ghost use Rattle.memory.specs.Layout.{memoryOk};
-ghost use Rattle.memory.specs.Decode.{slotOf, textLimits, textCounts, textsPart, nameLimits, nameCounts, namesPart};
+ghost use Rattle.memory.specs.Decode.{slotOf, kindOf, textLimits, textCounts, textsPart, nameLimits, nameCounts, namesPart};
 ghost use Rattle.memory.specs.Stored.{textIn, namePart};
 use crate::layout::Document;
 use crate::layout::names_at;
@@ -14,6 +16,7 @@ use names::NameCounts;
 use names::NameLimits;
 use slots::Chars;
 use slots::NameId;
+use slots::NodeData;
 use slots::TextSlot;
 use texts::TextCounts;
 use texts::TextLimits;
@@ -101,6 +104,21 @@ pub fn text_bytes(d: Document, mem: &[u64], text: Chars) -> &[u64]
     match text {
         Chars::Empty => &mem[..0],
         Chars::Expanded(slot) => slot_bytes(d, mem, slot),
+    }
+}
+
+// The text of a node that `set_text`, or a second `set_attribute` or `declare_namespace`, replaces.
+pub fn text_field(data: NodeData) -> Chars
+    ensures { λ r. ⌜ slotOf r ≡ orElse none (replaceable (kindOf «data»)) ⌝ }
+{
+    match data {
+        NodeData::Root => Chars::Empty,
+        NodeData::Element { .. } => Chars::Empty,
+        NodeData::Attr { value, .. } => value,
+        NodeData::Text(content) => content,
+        NodeData::Comment(_) => Chars::Empty,
+        NodeData::Namespace { uri, .. } => uri,
+        NodeData::ProcessingInstruction { .. } => Chars::Empty,
     }
 }
 

@@ -1,15 +1,14 @@
 // The plan of `set_text`, and Full of a replaced text.
 ghost use mathlib.Core.Path.{_≡_};
 ghost use mathlib.Core.Bool.{true};
-ghost use mathlib.Core.Option.{none, some};
+ghost use mathlib.Core.Option.{some};
 ghost use Prim.Native.Nat.{_≤_};
 ghost use lib.ListN.{length};
 ghost use Rattle.slots.specs.Handles.{wordOf};
-ghost use Rattle.model.specs.Kinds.{replaceable};
-ghost use Rattle.model.specs.Doc.{resolves, viewAt, bytesAt, orElse};
+ghost use Rattle.model.specs.Doc.{resolves, viewAt, bytesAt};
 ghost use Rattle.model.specs.Checks.{checkSetText};
 ghost use Rattle.model.specs.Calls.{set-text, step, fullUnless, underRoot, replacementFits, replaceableAt};
-ghost use Rattle.memory.specs.Decode.{slotOf, kindOf, decode};
+ghost use Rattle.memory.specs.Decode.{slotOf, decode};
 ghost use Rattle.plans.specs.Verdicts.{verdictNumber, refusalNumber};
 ghost use Rattle.memory.specs.Undamaged.{Undamaged};
 use crate::arguments::not_utf8;
@@ -26,11 +25,11 @@ use crate::views::is_root;
 use memory::layout::Document;
 use memory::read::resolve;
 use memory::stored::text_counts;
+use memory::stored::text_field;
 use memory::stored::text_limits;
 use memory::stored::texts_words;
 use slots::Chars;
 use slots::Loaded;
-use slots::NodeData;
 use slots::NodeId;
 use slots::Parent;
 use slots::TextSlot;
@@ -57,21 +56,6 @@ fn check_set_text(d: Document, mem: &[u64], id: NodeId, text: &[u8]) -> Verdict
         text_under(under_root(d, mem, id), text)
     } else {
         place
-    }
-}
-
-// The text that `set_text`, and a second `set_attribute` or `declare_namespace`, replaces.
-pub fn replaced_field(data: NodeData) -> Chars
-    ensures { λ r. ⌜ slotOf r ≡ orElse none (replaceable (kindOf «data»)) ⌝ }
-{
-    match data {
-        NodeData::Root => Chars::Empty,
-        NodeData::Element { .. } => Chars::Empty,
-        NodeData::Attr { value, .. } => value,
-        NodeData::Text(content) => content,
-        NodeData::Comment(_) => Chars::Empty,
-        NodeData::Namespace { uri, .. } => uri,
-        NodeData::ProcessingInstruction { .. } => Chars::Empty,
     }
 }
 
@@ -110,7 +94,7 @@ pub fn replacing_fits(d: Document, mem: &[u64], id: NodeId, text: &[u8]) -> Verd
     match resolve(d, mem, id) {
         Loaded::Found(node) => {
             let data = node.data;
-            let field = replaced_field(data);
+            let field = text_field(data);
             full_unless(replacement_fits(d, mem, field, text))
         }
         Loaded::NoNode => Verdict::Accepted,

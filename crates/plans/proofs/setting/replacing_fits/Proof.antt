@@ -13,8 +13,8 @@ resolve-requires c κs = search needs
 enum-known-node : tie.Need-enum-known-node
 enum-known-node c = search needs
 
-replaced-field-requires : tie.Need-replaced-field-requires
-replaced-field-requires c κs = search needs
+text-field-requires : tie.Need-text-field-requires
+text-field-requires c κs = search needs
 
 replacement-fits-requires : tie.Need-replacement-fits-requires
 replacement-fits-requires c κs = search needs
@@ -26,7 +26,7 @@ enum-told : tie.Need-enum-told
 enum-told c = search needs
 
 returns : tie.Need-returns
-returns c = let s = c .before .before .before .before .before .before .before .before .before in replacing-found (s .args .d) (s .args .mem .now) (s .args .id) (omega (arith, c .before .before .before .before .before .before .before .before .before .good)) (omega (arith, c .before .before .before .before .before .before .before .before .before .good)) (s .args .text .now) _ _ (sym (c .before .before .before .before .before .before .resolve .ensures) ∙ c .before .before .before .before .node .given .1) (c .before .before .replaced-field .result) (c .before .before .replaced-field .ensures) _ (c .before .replacement-fits .ensures) (c .full-unless .ensures)
+returns c = let s = c .before .before .before .before .before .before .before .before .before in replacing-found (s .args .d) (s .args .mem .now) (s .args .id) (omega (arith, c .before .before .before .before .before .before .before .before .before .good)) (omega (arith, c .before .before .before .before .before .before .before .before .before .good)) (s .args .text .now) _ _ (sym (c .before .before .before .before .before .before .resolve .ensures) ∙ c .before .before .before .before .node .given .1) (c .before .before .text-field .result) (c .before .before .text-field .ensures) _ (c .before .replacement-fits .ensures) (c .full-unless .ensures)
 
 returns-2 : tie.Need-returns-2
 returns-2 c = let s = c .before .before .before .before .before in replacing-stale (s .args .d) (s .args .mem .now) (s .args .id) (omega (arith, c .before .before .before .before .before .good)) (omega (arith, c .before .before .before .before .before .good)) (s .args .text .now) _ (sym (c .before .before .resolve .ensures) ∙ c .enum-told .given .1) (s .pre .1)
@@ -37,7 +37,7 @@ replacing-fits-spec =
     (tie.spec
     resolve-requires
     enum-known-node
-    replaced-field-requires
+    text-field-requires
     replacement-fits-requires
     full-unless-requires
     enum-told
