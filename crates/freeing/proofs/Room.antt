@@ -20,9 +20,9 @@ use Rattle.model.specs.Rules.{slotsHeld, heldIn, held}
 use Rattle.model.proofs.Wf.{Distinct}
 use Rattle.model.proofs.Basics.{mem-count, live-even, live-below}
 use Rattle.model.proofs.Counting.{mem-index, getD-below}
-use Rattle.model.proofs.Membership.{mem-without-old, distinct-without}
 use Rattle.model.proofs.Freeing.{slotsHeld-append}
-use Rattle.walks.proofs.Distinct.{distinct-append, distinct-map, mem-map-cases, count-distinct, pigeonhole}
+use Rattle.model.proofs.Membership.{mem-without-old, distinct-without, distinct-append, distinct-map, mem-map-cases, pigeonhole}
+use Rattle.walks.proofs.Distinct.{count-distinct}
 use Rattle.walks.proofs.Walkable.{live-of, same-index}
 use Rattle.texts.specs.Pool.{Pool, reclaimed}
 use Rattle.texts.specs.Rule.{FreeTexts}

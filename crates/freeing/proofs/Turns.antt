@@ -31,7 +31,8 @@ use Rattle.memory.proofs.Limits.{sizes, limits-fit, memory-limits}
 use Rattle.edits.specs.Pooled.{setPool}
 use Rattle.edits.proofs.Composed.{step-none, step-as, step-memory, step-next}
 use Rattle.walks.specs.Order.{pushedIn, ListHeld}
-use Rattle.walks.proofs.Distinct.{distinct-map, mem-map-cases, count-distinct, pigeonhole}
+use Rattle.model.proofs.Membership.{distinct-map, mem-map-cases, pigeonhole}
+use Rattle.walks.proofs.Distinct.{count-distinct}
 use Rattle.walks.proofs.Pushing.{stack-lists}
 use Rattle.walks.proofs.Renewing.{stackOf, stack-top}
 use Rattle.walks.proofs.Visits.{Nest}

@@ -4,13 +4,14 @@ use mathlib.Core.Path.{_≡_, refl, sym, ap, _∙_}
 use mathlib.Core.Bool.{cond}
 use mathlib.Core.List.{List, [], _∷_, _++_}
 use Prim.Native.Nat.{ℕ, zero, suc, _+_, _<_, _≤_, _%_}
-use native.Mathlib.Decide.{ℕ-discrete}
+use native.Mathlib.Decide.{ℕ-discrete, decLt}
 use native.Mathlib.Omega.{arith}
 use lib.ListN.{length, getD, set, replicate, length-set, length-append, length-replicate, getD-replicate, List·getD-append}
 use lib.Seq.{getD-set-same, getD-set-other, getD-at}
 use lib.Dec.{eqb}
 use borrow.Author.Tests.{eq-eqb, ne-eqb}
 use Rattle.words.specs.Lists.{countOf}
+use Rattle.words.proofs.Counting.{counted-same, counted-other, once-length, once-room}
 use Rattle.slots.specs.FreeRule.{FreeRule}
 use Rattle.slots.specs.Slots.{up}
 use Rattle.slots.proofs.Lists.{countOf-snoc}
@@ -21,12 +22,6 @@ up-even g e = omega arith
 
 pub up-odd : (g : ℕ) → g % 2 ≡ 1 → up g % 2 ≡ 0
 up-odd g e = omega arith
-
-counted-same : (s : ℕ) → cond {A = ℕ} (eqb s s) 1 0 ≡ 1
-counted-same s = rw (eq-eqb s s refl)
-
-counted-other : (s x : ℕ) → (s ≡ x → ⊥) → cond {A = ℕ} (eqb s x) 1 0 ≡ 0
-counted-other s x ne = rw (ne-eqb s x ne)
 
 -- the entries of a list with one more at the end
 snoc-inside : (l : List ℕ) (x n : ℕ) → ((i : ℕ) → i < length l → getD l i 0 < n) → x < n → (i : ℕ) → i < length (l ++ (x ∷ [])) → getD (l ++ (x ∷ [])) i 0 < n
@@ -105,61 +100,22 @@ rule-fresh made = record {
   once = λ s k. ap (λ (g : ℕ). g % 2) (sym (getD-replicate made s 0 0 (omega (arith, length-replicate {A = ℕ} made 0))));
 }
 
--- ---- room on the stack, by adding up
-
--- f 0 + f 1 + .. + f (n - 1)
-abbrev total : (ℕ → ℕ) → ℕ → ℕ
-total f zero = 0
-total f (suc n) = total f n + f n
-
-total-same : (f g : ℕ → ℕ) (n : ℕ) → ((s : ℕ) → s < n → f s ≡ g s) → total f n ≡ total g n
-total-same f g zero h = refl
-total-same f g (suc n) h = omega (arith, total-same f g n (λ s b. h s (omega arith)), h n (omega arith))
-
-total-add : (f g : ℕ → ℕ) (n : ℕ) → total (λ s. f s + g s) n ≡ total f n + total g n
-total-add f g zero = refl
-total-add f g (suc n) = omega (arith, total-add f g n)
-
-total-zero : (n : ℕ) → total (λ s. 0) n ≡ 0
-total-zero zero = refl
-total-zero (suc n) = omega (arith, total-zero n)
-
--- one slot counts once
-total-one : (x n : ℕ) → x < n → total (λ s. cond (eqb s x) 1 0) n ≡ 1
-total-one x zero b = absurd (omega arith)
-total-one x (suc n) b = go (ℕ-discrete n x) (λ k. total-one x n k)
-  where
-    go : Dec (n ≡ x) → (x < n → total (λ s. cond (eqb s x) 1 0) n ≡ 1) → total (λ s. cond (eqb s x) 1 0) n + cond (eqb n x) 1 0 ≡ 1
-    go (yes e) ih =
-        let q : cond {A = ℕ} (eqb n x) 1 0 ≡ 1 = rw (eq-eqb n x e) in
-        omega (arith, total-same (λ s. cond (eqb s x) 1 0) (λ s. 0) n (λ s k. counted-other s x (λ p. omega arith)), total-zero n)
-    go (no ne) ih = omega (arith, counted-other n x ne, ih (omega arith))
-
--- the entries, counted by slots
-total-entries : (l : List ℕ) (n : ℕ) → ((i : ℕ) → i < length l → getD l i 0 < n) → total (λ s. countOf (eqb s) l) n ≡ length l
-total-entries [] n h = total-zero n
-total-entries (x ∷ l) n h =
-    omega (arith, total-add (λ s. cond (eqb s x) 1 0) (λ s. countOf (eqb s) l) n, total-one x n (h 0 (omega arith)), total-entries l n (λ i b. h (suc i) (omega arith)))
-
-total-bits : (f : ℕ → ℕ) (n : ℕ) → total (λ s. f s % 2) n ≤ n
-total-bits f zero = omega arith
-total-bits f (suc n) = omega (arith, total-bits f n)
-
-total-less : (f : ℕ → ℕ) (n k : ℕ) → k < n → f k % 2 ≡ 0 → total (λ s. f s % 2) n < n
-total-less f zero k b e = absurd (omega arith)
-total-less f (suc n) k b e = go (ℕ-discrete k n) (λ j. total-less f n k j e)
-  where
-    go : Dec (k ≡ n) → (k < n → total (λ s. f s % 2) n < n) → total (λ s. f s % 2) n + f n % 2 < suc n
-    go (yes q) ih = omega (arith, total-bits f n, ap (λ (i : ℕ). f i % 2) q)
-    go (no ne) ih = omega (arith, ih (omega arith))
+-- ---- room on the stack
 
 module _ (gens free : List ℕ) (r : FreeRule gens free) where
-  length-total : length free ≡ total (λ s. getD gens s 0 % 2) (length gens)
-  length-total = sym (total-entries free (length gens) (r .inside)) ∙ total-same _ _ (length gens) (r .once)
+  below : (s : ℕ) → 0 < countOf (eqb s) free → s < length gens
+  below s k = go (decLt s (length gens))
+    where
+      go : Dec (s < length gens) → s < length gens
+      go (yes b) = b
+      go (no b) = absurd (omega (arith, k, absent s free (λ i j. omega (arith, r .inside i j))))
+
+  once : (s : ℕ) → s < length gens → countOf (eqb s) free ≤ 1
+  once s b = omega (arith, r .once s b)
 
   -- the stack is no longer than the slots made, and shorter where one of them is live
   pub rule-length : length free ≤ length gens
-  rule-length = omega (arith, length-total, total-bits (λ s. getD gens s 0) (length gens))
+  rule-length = once-length free (length gens) below once
 
   pub rule-room : (s : ℕ) → s < length gens → getD gens s 0 % 2 ≡ 0 → length free < length gens
-  rule-room s b e = omega (arith, length-total, total-less (λ t. getD gens t 0) (length gens) s b e)
+  rule-room s b e = once-room free (length gens) below once s b (r .once s b ∙ e)

@@ -12,15 +12,16 @@ use lib.Seq.{getD-set-same, getD-set-other}
 use lib.Dec.{eqb}
 use borrow.Author.Tests.{eq-eqb, ne-eqb}
 use Rattle.words.specs.Lists.{countOf}
+use Rattle.words.proofs.Counting.{counted-same, counted-other, once-room}
 use Rattle.texts.specs.Pool.{Pool, nextSlotFrom, storedFrom, storedSlot, stored, replacedSlot, replaced, released}
 use Rattle.texts.specs.Rule.{FreeTexts, holds, Owned}
 use Rattle.texts.proofs.Pool.{first-there}
 
 holds-same : (s : ℕ) → holds (some s) s ≡ 1
-holds-same s = rw (eq-eqb s s refl)
+holds-same s = counted-same s
 
 holds-other : (x s : ℕ) → (s ≡ x → ⊥) → holds (some x) s ≡ 0
-holds-other x s h = rw (ne-eqb s x h)
+holds-other x s h = counted-other s x h
 
 -- a slot that has an owner is not in the free list
 pub owned-not-free : (p : Pool) (owners : ℕ → ℕ) → Owned p owners → (s : ℕ) → 0 < owners s → (s < length (p .texts)) × (countOf (eqb s) (p .free) ≡ 0)
@@ -130,56 +131,7 @@ released-free-texts p x h f =
 
 -- ---- the stack has room for a slot that has an owner
 
--- f 0 + f 1 + .. + f (n - 1)
-total : (ℕ → ℕ) → ℕ → ℕ
-total f zero = 0
-total f (suc n) = total f n + f n
-
-total-add : (f g : ℕ → ℕ) (n : ℕ) → total (λ s. f s + g s) n ≡ total f n + total g n
-unfolding total
-total-add f g zero = omega arith
-total-add f g (suc n) = omega (arith, total-add f g n)
-
-total-zero : (f : ℕ → ℕ) (n : ℕ) → ((s : ℕ) → s < n → f s ≡ 0) → total f n ≡ 0
-unfolding total
-total-zero f zero h = refl
-total-zero f (suc n) h = omega (arith, total-zero f n (λ s k. h s (omega arith)), h n (omega arith))
-
-total-one : (x n : ℕ) → x < n → total (λ s. cond (eqb s x) 1 0) n ≡ 1
-unfolding total
-total-one x zero h = absurd (omega arith)
-total-one x (suc n) h = go (ℕ-discrete n x) (λ k. total-one x n k)
-  where
-    go : Dec (n ≡ x) → (x < n → total (λ s. cond (eqb s x) 1 0) n ≡ 1) → total (λ s. cond (eqb s x) 1 0) n + cond (eqb n x) 1 0 ≡ 1
-    go (yes e) ih =
-        let z : total (λ s. cond (eqb s x) 1 0) n ≡ 0 = total-zero (λ s. cond (eqb s x) 1 0) n (λ s k. holds-other x s (λ q. omega arith)) in
-        let w : cond {A = ℕ} (eqb n x) 1 0 ≡ 1 = rw (eq-eqb n x e) in
-        omega arith
-    go (no e) ih = omega (arith, ih (omega arith), holds-other x n e)
-
--- entries below n, each counted at its own number, are as many as the list is long
-total-count : (l : List ℕ) (n : ℕ) → ((s : ℕ) → 0 < countOf (eqb s) l → s < n) → total (λ s. countOf (eqb s) l) n ≡ length l
-total-count [] n h = total-zero (λ s. 0) n (λ s k. refl)
-total-count (x ∷ l) n h =
-    total-add (λ s. cond (eqb s x) 1 0) (λ s. countOf (eqb s) l) n
-    ∙ omega (arith, total-one x n (h x (first-there x l)), total-count l n (λ s k. h s (omega arith)))
-
-total-le : (f : ℕ → ℕ) (n : ℕ) → ((s : ℕ) → s < n → f s ≤ 1) → total f n ≤ n
-unfolding total
-total-le f zero h = omega arith
-total-le f (suc n) h = omega (arith, total-le f n (λ s k. h s (omega arith)), h n (omega arith))
-
-total-below : (f : ℕ → ℕ) (n x : ℕ) → x < n → f x ≡ 0 → ((s : ℕ) → s < n → f s ≤ 1) → total f n < n
-unfolding total
-total-below f zero x h z k = absurd (omega arith)
-total-below f (suc n) x h z k = go (ℕ-discrete x n) (λ g. total-below f n x g z (λ s i. k s (omega arith)))
-  where
-    go : Dec (x ≡ n) → (x < n → total f n < n) → total f n + f n < suc n
-    go (yes e) ih = omega (arith, total-le f n (λ s i. k s (omega arith)), ap f e)
-    go (no e) ih = omega (arith, ih (omega arith), k n (omega arith))
-
 pub free-room : (p : Pool) (owners : ℕ → ℕ) → Owned p owners → FreeTexts p → (s : ℕ) → 0 < owners s → length (p .free) < length (p .texts)
 free-room p owners o f s h =
     let w : (s < length (p .texts)) × (countOf (eqb s) (p .free) ≡ 0) = owned-not-free p owners o s h in
-    let e : total (λ i. countOf (eqb i) (p .free)) (length (p .texts)) ≡ length (p .free) = total-count (p .free) (length (p .texts)) (f .inside) in
-    omega (arith, total-below (λ i. countOf (eqb i) (p .free)) (length (p .texts)) s (w .0) (w .1) (λ i k. omega (arith, o .once i k)))
+    once-room (p .free) (length (p .texts)) (f .inside) (λ i k. omega (arith, o .once i k)) s (w .0) (w .1)

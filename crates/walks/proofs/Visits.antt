@@ -8,7 +8,7 @@ use Prim.Native.Nat.{ℕ, _+_, _≤_, _<_}
 use native.Mathlib.Omega.{arith}
 use lib.ListN.{length, length-append, length-map}
 use Rattle.model.proofs.Wf.{Distinct}
-use Rattle.walks.proofs.Distinct.{mem-map-cases, distinct-append, distinct-map, pigeonhole}
+use Rattle.model.proofs.Membership.{mem-map-cases, distinct-append, distinct-map, pigeonhole}
 
 -- a walk from several tops, one after another
 module _ (next : ℕ → List ℕ) (Live : ℕ → Type 0) (parent : ℕ → Option ℕ) where

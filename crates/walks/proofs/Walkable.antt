@@ -25,7 +25,8 @@ use Rattle.memory.specs.Layout.{limitsOf, memoryOk}
 use Rattle.memory.specs.Decode.{slotsMade, poolIn, namesIn, lengthsAdd, decode}
 use Rattle.memory.proofs.Columns.{live-made}
 use Rattle.walks.specs.Order.{ListHeld, Listed, Walkable}
-use Rattle.walks.proofs.Distinct.{distinct-append, distinct-reverse, mem-reverse-old, count-distinct}
+use Rattle.model.proofs.Membership.{distinct-append, distinct-reverse, mem-reverse-old}
+use Rattle.walks.proofs.Distinct.{count-distinct}
 use Rattle.walks.proofs.Visits.{Nest}
 
 -- a block is no longer than its capacity

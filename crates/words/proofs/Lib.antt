@@ -6,3 +6,4 @@ pub mod Lengths
 pub mod Reach
 pub mod Places
 pub mod Bytes
+pub mod Counting
