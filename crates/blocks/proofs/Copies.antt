@@ -6,10 +6,10 @@ use Prim.Native.Nat.{ℕ, _+_, _≤_}
 use native.Mathlib.Omega.{arith}
 use lib.ListN.{length, take, drop, replicate, length-replicate, length-drop}
 use Rattle.words.specs.Parts.{part, put}
-use Rattle.words.proofs.Parts.{length-part, length-put, part-add, part-put-same, part-put-before, part-none, put-nil, put-all, take-put-before}
+use Rattle.words.proofs.Parts.{length-part, length-put, part-add, part-put-same, part-put-before, part-none, put-nil, put-all, take-put-before, put-right}
 use Rattle.blocks.specs.Arena.{arenaOf, arenaWords}
 use Rattle.blocks.specs.Compact.{cleared, copied, BlockCopied}
-use Rattle.blocks.proofs.Lists.{put-append, put-right}
+use Rattle.blocks.proofs.Lists.{put-append}
 use Rattle.blocks.proofs.Decoded.{decoded}
 use Rattle.blocks.proofs.Halves.{ids-length, part-ids, put-ids}
 

@@ -2,11 +2,11 @@
 -- Assumes nothing.
 use mathlib.Core.Path.{_≡_, refl, sym, ap, _∙_}
 use mathlib.Core.Bool.{Bool, true, false, _&&_, cond, false≢true}
-use mathlib.Core.List.{List, [], _∷_, _++_, map, append-assoc}
+use mathlib.Core.List.{List, [], _∷_, _++_, map}
 use Prim.Native.Nat.{ℕ, zero, suc, _+_, _≤_, _<_, min}
 use native.Mathlib.Omega.{arith}
 use lib.ListN.{length, getD, take, drop, replicate, length-append, length-take}
-use lib.Seq.{take-append-add, drop-append-add, ext-getD, getD-at}
+use lib.Seq.{ext-getD, getD-at}
 use lib.Dec.{eqb}
 use borrow.Author.Tests.{eq-eqb}
 use Rattle.words.specs.Parts.{put}
@@ -15,12 +15,6 @@ use Rattle.words.proofs.Parts.{length-put, part-put-same, put-front, put-put}
 use Rattle.words.proofs.Lists.{map-append, length-tabulate, getD-tabulate}
 
 module _ {A : Type 0} where
-  pub put-right : (x y : List A) (p : ℕ) (vs : List A) → put (length x + p) vs (x ++ y) ≡ x ++ put p vs y
-  unfolding put
-  put-right x y p vs =
-      let e : length x + p + length vs ≡ length x + (p + length vs) = omega arith in
-      rw (take-append-add x y p, e, drop-append-add x y (p + length vs)) (append-assoc x (take p y) (vs ++ drop (p + length vs) y))
-
   -- two lists put one after the other
   pub put-append : (l xs ys : List A) (p : ℕ) → p + (length xs + length ys) ≤ length l → put p (xs ++ ys) l ≡ put (p + length xs) ys (put p xs l)
   put-append l xs ys p h =

@@ -2,7 +2,7 @@
 -- Assumes nothing.
 use mathlib.Core.Path.{_≡_, refl, sym, ap, _∙_, subst}
 use mathlib.Core.Logic.{_⊎_, inl, inr}
-use mathlib.Core.Bool.{Bool, true, false, cond, _&&_, false≢true}
+use mathlib.Core.Bool.{Bool, true, false, cond, _&&_}
 use mathlib.Core.Option.{Option, none, some, Option·none-ne-some}
 use mathlib.Core.List.{List, [], _∷_, _++_, reverse, reverse-append, reverse-reverse, append-assoc, append-nil, List·Memᴰ, List·Memᴰ·head, List·Memᴰ·not-nil}
 use Prim.Native.Nat.{ℕ, zero, suc, _+_, _≤_, _<_}
@@ -15,10 +15,11 @@ use Rattle.words.proofs.Joined.{joined-append}
 use Rattle.words.proofs.Tests.{and-both}
 use Rattle.slots.specs.Handles.{handleIndex, handleGeneration}
 use Rattle.slots.proofs.Handles.{handleIndex-wordOf, handleGeneration-wordOf}
-use Rattle.model.specs.Kinds.{Kind, root, element, attribute, text, comment, namespace, instruction, Which, children, whichOf, owns, isContainer}
+use Rattle.model.specs.Kinds.{Which, children, whichOf, owns}
 use Rattle.model.specs.Doc.{Doc, generationAt, liveSlot, handleAt, resolves, kindIn, kindAt, parentIn, parentAt, listAt, isNone}
 use Rattle.model.specs.Rules.{Rules, Ends, top, up}
 use Rattle.model.specs.Edits.{walk, rebuilt}
+use Rattle.model.proofs.Rebuilt.{container-child}
 use Rattle.model.proofs.Wf.{Distinct}
 use Rattle.model.proofs.Basics.{live-below, count-mem}
 use Rattle.model.proofs.Membership.{mem-joined, mem-reverse, mem-reverse-old, distinct-reverse}
@@ -212,15 +213,6 @@ module _ (D : Doc) (R : Rules D) (few : length (D .gens) ≤ 65536) where
 
   pub met-all : Met D (length (D .gens)) (rebuilt D) []
   met-all = met-below (length (D .gens)) (omega arith)
-
-  container-child : {N T : Type 0} (k : Kind N T) → isContainer k ≡ true → whichOf k ≡ children
-  container-child root e = refl
-  container-child (element n) e = refl
-  container-child (attribute n v) e = absurd (false≢true e)
-  container-child (text t) e = refl
-  container-child (comment t) e = refl
-  container-child (namespace p u) e = absurd (false≢true e)
-  container-child (instruction t d) e = refl
 
   walk-first : (n t : ℕ) → 0 < n → List·Memᴰ t (walk (λ h. listAt D children h) n (t ∷ []))
   walk-first zero t h = absurd (omega arith)

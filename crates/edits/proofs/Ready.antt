@@ -1,17 +1,17 @@
 -- What the steps ask follows from the eight rules and from what a plan decided.
 -- Assumes nothing.
 use mathlib.Core.Path.{_≡_, refl, sym, ap, _∙_}
-use mathlib.Core.Bool.{true, false, false≢true, cond}
+use mathlib.Core.Bool.{true, false, false≢true}
 use mathlib.Core.Option.{Option, some}
-use mathlib.Core.List.{List, [], _∷_}
-use Prim.Native.Nat.{ℕ, zero, suc, _%_, _<_}
+use mathlib.Core.List.{List}
+use Prim.Native.Nat.{ℕ, _%_, _<_}
 use native.Mathlib.Omega.{arith}
 use lib.ListN.{length, getD}
 use lib.Dec.{eqb}
-use borrow.Author.Tests.{eq-eqb}
 use Rattle.words.specs.Lists.{countOf}
 use Rattle.words.proofs.Lists.{length-tabulate, getD-tabulate}
 use Rattle.words.proofs.Tests.{and-left}
+use Rattle.texts.proofs.Lists.{getD-count}
 use Rattle.slots.specs.Handles.{handleIndex, handleGeneration}
 use Rattle.slots.specs.Regions as regions
 use Rattle.model.specs.Kinds.{Kind, root, element, attribute, text, comment, namespace, instruction, Which, children, attributes, namespaces, owns, whichOf}
@@ -41,16 +41,6 @@ owns-range children (namespace p u) e = absurd (false≢true e)
 owns-range children (instruction t c) e = refl
 owns-range attributes k e = e
 owns-range namespaces k e = e
-
--- an entry stands in its list
-counted : (l : List ℕ) (i : ℕ) → i < length l → 0 < countOf (eqb (getD l i 0)) l
-counted [] i b = absurd (omega arith)
-counted (x ∷ l) zero b =
-    let q : cond {A = ℕ} (eqb x x) 1 0 ≡ 1 = rw (eq-eqb x x refl) in
-    omega arith
-counted (x ∷ l) (suc i) b =
-    let q = counted l i (omega arith) in
-    omega arith
 
 module _ (d : Document) (mem : List ℕ) (ok : memoryOk d (length mem) ≡ true) (r : Rules (decode d mem)) where
   resolved-live : (h : ℕ) → resolves (decode d mem) h ≡ true → liveSlot (decode d mem) (handleIndex h) ≡ true
@@ -104,7 +94,7 @@ module _ (d : Document) (mem : List ℕ) (ok : memoryOk d (length mem) ≡ true)
           let s = getD (decode d mem .free) i 0 in
           let e = same-default s (r .freeList .inside i b) in
           let q = r .freeList .once s (r .freeList .inside i b) in
-          let c = counted (decode d mem .free) i b in
+          let c = getD-count (decode d mem .free) i b in
           ap (λ (g : ℕ). g % 2) e ∙ odd-of (getD (decode d mem .gens) s 0) (countOf (eqb s) (decode d mem .free)) c q
 
   pub rules-appendable : (w : Which) (p : ℕ) → resolves (decode d mem) p ≡ true → owns w (kindAt (decode d mem) p) ≡ true

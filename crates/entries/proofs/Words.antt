@@ -1,20 +1,20 @@
 -- The words of a slot where rule 1 holds of them, and what the document without its texts and names has there.
 -- Assumes nothing.
 use mathlib.Core.Path.{_≡_, sym, ap, _∙_}
-use mathlib.Core.Bool.{Bool, true, false, _&&_}
+use mathlib.Core.Bool.{Bool, true}
 use mathlib.Core.List.{List, []}
-use Prim.Native.Nat.{ℕ, _/_, _%_, _<_, _≤_}
+use Prim.Native.Nat.{ℕ, _%_, _<_}
 use native.Mathlib.Omega.{arith}
 use native.Mathlib.Decide.{ℕ-discrete}
 use lib.ListN.{getD}
 use lib.Dec.{eqb}
 use borrow.Author.Tests.{lt-ltb, ne-eqb}
 use Rattle.words.proofs.Tests.{and-left}
-use Rattle.slots.specs.Records.{isNode, foundNode, nodeOf}
+use Rattle.slots.specs.Records.{foundNode}
 use Rattle.slots.specs.Regions.{generationAt, recordAt, nodeAt}
 use Rattle.slots.specs.Handles.{handleIndex, handleGeneration}
+use Rattle.slots.proofs.Records.{is-node-found}
 use Rattle.slots.proofs.WordsRule.{words-rule-of}
-use Rattle.slots.specs.declared.NodeRecord.{NodeRecord}
 use Rattle.slots.specs.declared.Loaded.the-variants.{Found}
 use Rattle.model.specs.Doc as doc
 use Rattle.model.specs.Doc.{Doc, handleWord, handleAt, liveSlot, resolves}
@@ -36,10 +36,6 @@ module _ (d : Document) (mem : List ℕ) where
 
   -- ---- live slots
 
-  node-some : (r : NodeRecord) → isNode r ≡ true → nodeOf r ≡ Found (foundNode r)
-  unfolding nodeOf
-  node-some r q = rw q
-
   pub live-word : (s g : ℕ) → wordsHold d mem ≡ true → s < slotsMade d → g ≡ getD mem s 0 → eqb (g % 2) 0 ≡ liveSlot (decodeNodes d mem) s
   unfolding nodeAt
   live-word s g h b e = go (ℕ-discrete (generationAt n w s % 2) 0)
@@ -51,7 +47,7 @@ module _ (d : Document) (mem : List ℕ) where
       go (yes v) =
           let r = words-rule-of n w (slotsMade d) h in
           let f : loadedAt n w s ≡ Found (foundNode (recordAt n w s)) =
-          rw (lt-ltb (generationAt n w s) 4294967296 (r .generation s b)) (node-some (recordAt n w s) (r .node s b v)) in
+          rw (lt-ltb (generationAt n w s) 4294967296 (r .generation s b)) (is-node-found (recordAt n w s) (r .node s b v)) in
           rw same (sym (columns.live-found noTexts [] true d mem s b (foundNode (recordAt n w s)) f))
       go (no v) =
           rw same (ne-eqb (generationAt n w s % 2) 0 v ∙ sym (columns.live-in noTexts [] true d mem s b ∙ rw (ne-eqb (generationAt n w s % 2) 0 v)))

@@ -17,7 +17,7 @@ use Rattle.memory.specs.declared.layout.Document.{Document}
 use Rattle.memory.specs.Decode.{kindLoaded, slotsPart, slotsMade, poolIn, namesIn, lengthsAdd, decode}
 use Rattle.memory.proofs.Columns as columns
 
-node-some : (r : NodeRecord) → isSome (kindLoaded (nodeOf r)) ≡ isNode r
+pub node-some : (r : NodeRecord) → isSome (kindLoaded (nodeOf r)) ≡ isNode r
 unfolding nodeOf
 node-some r = go (isNode r) refl
   where

@@ -151,7 +151,7 @@ top-unique {parent} (Below.down p f r) (Below.here e) tk tj = absurd (Option·no
 top-unique {parent} {k} {j} (Below.down p f r) (Below.down q g s) tk tj =
     top-unique r (subst (λ (z : ℕ). Below parent j z) (Option·some-injective q p (sym g ∙ f)) s) tk tj
 
-container-child : {N T : Type 0} (k : Kind N T) → isContainer k ≡ true → whichOf k ≡ children
+pub container-child : {N T : Type 0} (k : Kind N T) → isContainer k ≡ true → whichOf k ≡ children
 container-child root e = refl
 container-child (element n) e = refl
 container-child (attribute n v) e = absurd (false≢true e)

@@ -26,7 +26,7 @@ use Rattle.slots.specs.declared.Loaded.the-variants.{Found, NoNode}
 use Rattle.slots.proofs.Handles.{handleIndex-wordOf}
 use Rattle.names.specs.Table.{Name, name, sameName}
 use Rattle.model.specs.Kinds.{Kind, root, Which, attributes, namespaces, whichOf}
-use Rattle.model.specs.Doc.{Doc, resolves, liveSlot, generationAt, handleAt, kindAt, parentAt, rangeIn, listAt, pairAt, bytesAt, anyOption, orElse, handleWord}
+use Rattle.model.specs.Doc.{Doc, resolves, liveSlot, generationAt, handleAt, kindAt, parentAt, rangeIn, listAt, bytesAt, anyOption, orElse, handleWord}
 use Rattle.model.specs.Rules.{Rules}
 use Rattle.model.specs.Calls.{hasName, findAttribute, hasPrefix, findNamespace}
 use Rattle.model.proofs.Membership.{find-some}

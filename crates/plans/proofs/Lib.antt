@@ -6,7 +6,7 @@ pub mod Texts
 pub mod Room
 pub mod Appended
 pub mod Climbing
-pub mod Searches
+pub mod Entries
 pub mod Rooted
 pub mod Named
 pub mod Replaced

@@ -16,8 +16,9 @@ use Rattle.words.specs.Parts.{part}
 use Rattle.words.specs.Lists.{countOf, allBelow}
 use Rattle.words.proofs.Parts.{lent, length-part}
 use Rattle.words.proofs.Lists.{countOf-le, allBelow-at, at-allBelow}
+use Rattle.words.proofs.Tests.{and-left, and-right, and-both}
 use Rattle.slots.specs.FreeRule.{FreeRule, areSlots, freeRule, Counted, marksMatch, generations, freeStack}
-use Rattle.slots.proofs.Lists.{both-left, both-right, both-true, allBelow-next, allBelow-not, allBelow-same, countOf-snoc}
+use Rattle.slots.proofs.Lists.{allBelow-next, allBelow-not, allBelow-same, countOf-snoc}
 
 -- ---- the test says the rule
 
@@ -25,8 +26,8 @@ pub rule-of : (gens free : List ℕ) → freeRule gens free ≡ true → FreeRul
 unfolding freeRule
 rule-of gens free h =
     let p : ℕ → Bool = λ s. eqb (countOf (eqb s) free) (getD gens s 0 % 2) in
-    let slots = both-left (areSlots (length gens) free) (allBelow p (length gens)) h in
-    let due = both-right (areSlots (length gens) free) (allBelow p (length gens)) h in
+    let slots = and-left (areSlots (length gens) free) (allBelow p (length gens)) h in
+    let due = and-right (areSlots (length gens) free) (allBelow p (length gens)) h in
     record {
       inside = λ i b. ltb-true _ _ (allBelow-at _ (length free) slots i b);
       once = λ s b. eqb-true _ _ (allBelow-at p (length gens) due s b);
@@ -35,7 +36,7 @@ rule-of gens free h =
 pub of-rule : (gens free : List ℕ) → FreeRule gens free → freeRule gens free ≡ true
 unfolding freeRule
 of-rule gens free r =
-    both-true _ _ (at-allBelow _ (length free) (λ i b. lt-ltb _ _ (r .inside i b))) (at-allBelow _ (length gens) (λ s b. eq-eqb _ _ (r .once s b)))
+    and-both _ _ (at-allBelow _ (length free) (λ i b. lt-ltb _ _ (r .inside i b))) (at-allBelow _ (length gens) (λ s b. eq-eqb _ _ (r .once s b)))
 
 -- ---- counting the entries
 

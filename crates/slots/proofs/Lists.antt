@@ -1,7 +1,7 @@
 -- Laws of tests and lists that the vocabulary of `words` lacks.
 -- Assumes nothing.
 use mathlib.Core.Path.{_≡_, refl, sym, ap, _∙_}
-use mathlib.Core.Bool.{Bool, true, false, _&&_, cond, and-false, false≢true}
+use mathlib.Core.Bool.{Bool, true, false, _&&_, cond, and-false}
 use mathlib.Core.List.{List, [], _∷_, _++_}
 use Prim.Native.Nat.{ℕ, zero, suc, _+_, _≤_, _<_}
 use native.Mathlib.Numerals.{add-one}
@@ -13,19 +13,6 @@ use Rattle.words.specs.Parts.{part}
 use Rattle.words.specs.Lists.{countOf, allBelow}
 use Rattle.words.proofs.Parts.{length-part, getD-part}
 use Rattle.words.proofs.Lists.{countOf-append}
-
--- ---- two tests
-
-pub both-left : (a b : Bool) → (a && b) ≡ true → a ≡ true
-both-left true b h = refl
-both-left false b h = h
-
-pub both-right : (a b : Bool) → (a && b) ≡ true → b ≡ true
-both-right true b h = h
-both-right false b h = absurd (false≢true h)
-
-pub both-true : (a b : Bool) → a ≡ true → b ≡ true → (a && b) ≡ true
-both-true a b p q = rw (p, q)
 
 -- ---- a test at each number below another
 

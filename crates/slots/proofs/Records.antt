@@ -8,6 +8,7 @@ use native.Mathlib.Nat.{add-sub-cancel}
 use native.Mathlib.Decide.{ℕ-discrete}
 use lib.Dec.{eqb, leb}
 use borrow.Author.Tests.{leb-true, le-leb, eq-eqb, ne-eqb}
+use Rattle.words.proofs.Tests.{and-left, and-right, and-both}
 use Rattle.slots.specs.declared.Range.{Range}
 use Rattle.slots.specs.declared.Chars.{Chars}
 use Rattle.slots.specs.declared.Chars.the-variants.{Empty, Expanded}
@@ -21,7 +22,6 @@ use Rattle.slots.specs.declared.Span.{Span}
 use Rattle.slots.specs.declared.NodeRecord.{NodeRecord}
 use Rattle.slots.specs.Records.{charsWord, parentWord, parentGeneration, noSpan, kindWord, nameWord, firstText, secondText, attributesSpan, namespacesSpan, recordOf, hasName, hasFirst, hasSecond, hasChildren, hasLists, most, isSpan, isData, isParent, areRanges, isNode, charsOf, parentOf, dataOf, foundNode, nodeOf}
 use Rattle.slots.specs.Fields.{SpanWithin, Within, CharsFit, ParentFits, DataFits, ChildrenFit, NodeFits}
-use Rattle.slots.proofs.Lists.{both-left, both-right, both-true}
 
 -- ---- the test and the rule
 
@@ -29,42 +29,42 @@ span-within : (used : Bool) (s : Span) → isSpan used s ≡ true → SpanWithin
 unfolding isSpan
 span-within used s h =
     let m = most used 4294967295 in
-    (leb-true _ _ (both-left (leb (s .start) m) (leb (s .len) m) h), leb-true _ _ (both-right (leb (s .start) m) (leb (s .len) m) h))
+    (leb-true _ _ (and-left (leb (s .start) m) (leb (s .len) m) h), leb-true _ _ (and-right (leb (s .start) m) (leb (s .len) m) h))
 
 within-span : (used : Bool) (s : Span) → SpanWithin used s → isSpan used s ≡ true
 unfolding isSpan
-within-span used s h = both-true _ _ (le-leb _ _ (h .0)) (le-leb _ _ (h .1))
+within-span used s h = and-both _ _ (le-leb _ _ (h .0)) (le-leb _ _ (h .1))
 
 pub within : (r : NodeRecord) → isNode r ≡ true → Within r
 unfolding isNode isData isParent areRanges
 within r h =
-    let d = both-left (isData r) (isParent r && areRanges r) h in
-    let rest = both-right (isData r) (isParent r && areRanges r) h in
-    let named = both-right (leb (r .kind) 6) _ d in
-    let texts = both-right (leb (r .name) _) _ named in
-    let p = both-left (isParent r) (areRanges r) rest in
-    let s = both-right (isParent r) (areRanges r) rest in
-    let lists = both-right (isSpan (hasChildren (r .kind)) (r .children)) _ s in
+    let d = and-left (isData r) (isParent r && areRanges r) h in
+    let rest = and-right (isData r) (isParent r && areRanges r) h in
+    let named = and-right (leb (r .kind) 6) _ d in
+    let texts = and-right (leb (r .name) _) _ named in
+    let p = and-left (isParent r) (areRanges r) rest in
+    let s = and-right (isParent r) (areRanges r) rest in
+    let lists = and-right (isSpan (hasChildren (r .kind)) (r .children)) _ s in
     record {
-      kind = leb-true _ _ (both-left (leb (r .kind) 6) _ d);
-      name = leb-true _ _ (both-left (leb (r .name) _) _ named);
-      first = leb-true _ _ (both-left (leb (r .first) _) _ texts);
-      second = leb-true _ _ (both-right (leb (r .first) _) _ texts);
-      parent = leb-true _ _ (both-left (leb (r .parent) _) _ p);
-      generation = leb-true _ _ (both-right (leb (r .parent) _) _ p);
-      children = span-within _ _ (both-left (isSpan _ (r .children)) _ s);
-      attributes = span-within _ _ (both-left (isSpan _ (r .attributes)) _ lists);
-      namespaces = span-within _ _ (both-right (isSpan _ (r .attributes)) _ lists);
+      kind = leb-true _ _ (and-left (leb (r .kind) 6) _ d);
+      name = leb-true _ _ (and-left (leb (r .name) _) _ named);
+      first = leb-true _ _ (and-left (leb (r .first) _) _ texts);
+      second = leb-true _ _ (and-right (leb (r .first) _) _ texts);
+      parent = leb-true _ _ (and-left (leb (r .parent) _) _ p);
+      generation = leb-true _ _ (and-right (leb (r .parent) _) _ p);
+      children = span-within _ _ (and-left (isSpan _ (r .children)) _ s);
+      attributes = span-within _ _ (and-left (isSpan _ (r .attributes)) _ lists);
+      namespaces = span-within _ _ (and-right (isSpan _ (r .attributes)) _ lists);
     }
 
 pub is-node : (r : NodeRecord) → Within r → isNode r ≡ true
 unfolding isNode isData isParent areRanges
 is-node r w =
-    both-true (isData r) (isParent r && areRanges r)
-    (both-true _ _ (le-leb _ _ (w .kind)) (both-true _ _ (le-leb _ _ (w .name)) (both-true _ _ (le-leb _ _ (w .first)) (le-leb _ _ (w .second)))))
-    (both-true (isParent r) (areRanges r)
-    (both-true _ _ (le-leb _ _ (w .parent)) (le-leb _ _ (w .generation)))
-    (both-true _ _ (within-span _ _ (w .children)) (both-true _ _ (within-span _ _ (w .attributes)) (within-span _ _ (w .namespaces)))))
+    and-both (isData r) (isParent r && areRanges r)
+    (and-both _ _ (le-leb _ _ (w .kind)) (and-both _ _ (le-leb _ _ (w .name)) (and-both _ _ (le-leb _ _ (w .first)) (le-leb _ _ (w .second)))))
+    (and-both (isParent r) (areRanges r)
+    (and-both _ _ (le-leb _ _ (w .parent)) (le-leb _ _ (w .generation)))
+    (and-both _ _ (within-span _ _ (w .children)) (and-both _ _ (within-span _ _ (w .attributes)) (within-span _ _ (w .namespaces)))))
 
 -- ---- single words
 

@@ -9,6 +9,7 @@ use native.Mathlib.Decide.{decLt}
 use lib.ListN.{getD, set}
 use lib.Dec.{eqb, ltb}
 use borrow.Author.Tests.{ltb-true, lt-ltb, le-ltb, eqb-true, eq-eqb, ne-eqb}
+use Rattle.words.proofs.Tests.{and-left, and-right}
 use Rattle.slots.specs.declared.NodeId.{NodeId}
 use Rattle.slots.specs.declared.Node.{Node}
 use Rattle.slots.specs.declared.Loaded.{Loaded}
@@ -18,7 +19,6 @@ use Rattle.slots.specs.Records.{isNode, foundNode, nodeOf}
 use Rattle.slots.specs.Regions.{generationAt, freeAt, recordAt, nodeAt, putGeneration, putFree, putOrder, noPosition}
 use Rattle.slots.specs.Slots.{up, isCurrent, resolves, resolved, taken, takenGenerations, takenWords, CanTake, freedWords}
 use Rattle.slots.proofs.Records.{is-node-found, found-is-node}
-use Rattle.slots.proofs.Lists.{both-left, both-right}
 
 -- ---- handles
 
@@ -71,8 +71,8 @@ module _ (n : ℕ) (w : List ℕ) (made : ℕ) (h : NodeId) where
   pub resolved-found : resolves n w made h ≡ true → resolved n w made h ≡ Found (foundNode (recordAt n w (h .index)))
   unfolding resolved resolves nodeAt
   resolved-found e =
-      let t = both-left (isCurrent n w made h) (isNode (recordAt n w (h .index))) e in
-      let u = both-right (isCurrent n w made h) (isNode (recordAt n w (h .index))) e in
+      let t = and-left (isCurrent n w made h) (isNode (recordAt n w (h .index))) e in
+      let u = and-right (isCurrent n w made h) (isNode (recordAt n w (h .index))) e in
       rw t (is-node-found (recordAt n w (h .index)) u)
 
   pub record Current : Type 0 where
@@ -83,12 +83,12 @@ module _ (n : ℕ) (w : List ℕ) (made : ℕ) (h : NodeId) where
   pub resolves-current : resolves n w made h ≡ true → Current
   unfolding resolves isCurrent
   resolves-current e =
-      let t = both-left (isCurrent n w made h) (isNode (recordAt n w (h .index))) e in
-      let u = both-right (ltb (h .index) made) (eqb (generationAt n w (h .index)) (h .generation) && eqb (h .generation % 2) 0) t in
+      let t = and-left (isCurrent n w made h) (isNode (recordAt n w (h .index))) e in
+      let u = and-right (ltb (h .index) made) (eqb (generationAt n w (h .index)) (h .generation) && eqb (h .generation % 2) 0) t in
       record {
-        made-slot = ltb-true _ _ (both-left (ltb (h .index) made) (eqb (generationAt n w (h .index)) (h .generation) && eqb (h .generation % 2) 0) t);
-        same-generation = eqb-true _ _ (both-left (eqb (generationAt n w (h .index)) (h .generation)) (eqb (h .generation % 2) 0) u);
-        even-generation = eqb-true _ _ (both-right (eqb (generationAt n w (h .index)) (h .generation)) (eqb (h .generation % 2) 0) u);
+        made-slot = ltb-true _ _ (and-left (ltb (h .index) made) (eqb (generationAt n w (h .index)) (h .generation) && eqb (h .generation % 2) 0) t);
+        same-generation = eqb-true _ _ (and-left (eqb (generationAt n w (h .index)) (h .generation)) (eqb (h .generation % 2) 0) u);
+        even-generation = eqb-true _ _ (and-right (eqb (generationAt n w (h .index)) (h .generation)) (eqb (h .generation % 2) 0) u);
       }
 
   pub current-resolves : Current → isNode (recordAt n w (h .index)) ≡ true → resolves n w made h ≡ true

@@ -9,11 +9,12 @@ use native.Mathlib.Omega.{arith}
 use lib.Dec.{eqb, ltb}
 use borrow.Author.Tests.{ltb-true, lt-ltb, le-ltb, eq-eqb, ne-eqb}
 use Rattle.words.proofs.Lists.{allBelow-at, at-allBelow}
+use Rattle.words.proofs.Tests.{and-left, and-right, and-both}
 use Rattle.slots.specs.declared.NodeRecord.{NodeRecord}
 use Rattle.slots.specs.Records.{isNode}
 use Rattle.slots.specs.Regions.{generationAt, recordAt, orderAt}
 use Rattle.slots.specs.WordsRule.{WordsRule, slotWords, wordsRule}
-use Rattle.slots.proofs.Lists.{both-left, both-right, both-true, allBelow-next, allBelow-not}
+use Rattle.slots.proofs.Lists.{allBelow-next, allBelow-not}
 
 module _ (n : ℕ) (w : List ℕ) where
   -- ---- a slot
@@ -35,16 +36,16 @@ module _ (n : ℕ) (w : List ℕ) where
     slot-of : slotWords n w s ≡ true → SlotRule
     unfolding slotWords
     slot-of h =
-        let rest = both-right small (ordered && free-or-node) h in
+        let rest = and-right small (ordered && free-or-node) h in
         record {
-          generation = ltb-true _ _ (both-left small (ordered && free-or-node) h);
-          order = ltb-true _ _ (both-left ordered free-or-node rest);
-          node = λ e. rw (eq-eqb _ _ e) at (both-right ordered free-or-node rest);
+          generation = ltb-true _ _ (and-left small (ordered && free-or-node) h);
+          order = ltb-true _ _ (and-left ordered free-or-node rest);
+          node = λ e. rw (eq-eqb _ _ e) at (and-right ordered free-or-node rest);
         }
 
     of-slot : SlotRule → slotWords n w s ≡ true
     unfolding slotWords
-    of-slot r = both-true small (ordered && free-or-node) (lt-ltb _ _ (r .generation)) (both-true ordered free-or-node (lt-ltb _ _ (r .order)) (go (ℕ-discrete (generationAt n w s % 2) 0)))
+    of-slot r = and-both small (ordered && free-or-node) (lt-ltb _ _ (r .generation)) (and-both ordered free-or-node (lt-ltb _ _ (r .order)) (go (ℕ-discrete (generationAt n w s % 2) 0)))
       where
         go : Dec (generationAt n w s % 2 ≡ 0) → free-or-node ≡ true
         go (yes e) = rw (eq-eqb _ _ e) (r .node e)

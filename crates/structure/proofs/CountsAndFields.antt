@@ -1,7 +1,7 @@
 -- Rule 1: the tests of the counts, of the words and of the Root are the rule's.
 -- Assumes nothing.
 use mathlib.Core.Path.{_≡_, refl, sym, ap, ap₂, _∙_}
-use mathlib.Core.Bool.{Bool, true, false, not, _&&_, cond, and-true, and-false}
+use mathlib.Core.Bool.{Bool, true, false, not, _&&_, and-true, and-false}
 use mathlib.Core.Option.{none}
 use mathlib.Core.List.{List, []}
 use Prim.Native.Nat.{ℕ, _+_, _*_, _/_, _%_, _≤_, _<_}
@@ -16,16 +16,14 @@ use Rattle.words.specs.Lists.{allBelow}
 use Rattle.words.proofs.Parts.{getD-part}
 use Rattle.words.proofs.Lists.{getD-tabulate}
 use Rattle.words.proofs.Tests.{and-left, and-right}
-use Rattle.slots.specs.Records.{foundNode, nodeOf, isNode}
+use Rattle.slots.specs.Records.{isNode}
 use Rattle.slots.specs.Regions.{generationAt, recordAt, nodeAt}
 use Rattle.slots.specs.WordsRule.{wordsRule}
 use Rattle.slots.proofs.WordsRule.{words-rule-of, of-words-rule}
 use Rattle.slots.proofs.Lists.{allBelow-same}
-use Rattle.slots.specs.declared.NodeRecord.{NodeRecord}
 use Rattle.slots.specs.declared.Parent.{Parent}
 use Rattle.slots.specs.declared.Parent.the-variants.{None, Of}
 use Rattle.slots.specs.declared.NodeId.{NodeId}
-use Rattle.slots.specs.declared.Loaded.the-variants.{Found, NoNode}
 use Rattle.model.specs.Kinds.{Which, children, attributes, namespaces, isRoot}
 use Rattle.model.specs.Doc as model
 use Rattle.model.specs.Doc.{Doc, liveSlot, kindIn, parentIn, even, isSome, isNone}
@@ -37,7 +35,8 @@ use Rattle.memory.specs.declared.layout.Document.{Document}
 use Rattle.memory.specs.declared.layout.Limits as given
 use Rattle.memory.specs.declared.layout.Counts.{Counts}
 use Rattle.memory.specs.Layout.{limitsOf, entriesOf, arenaAt}
-use Rattle.memory.specs.Decode.{handleOf, kindLoaded, countsWithin, slotsPart, slotsMade, arenaPart, arenaUsed, arenaIn}
+use Rattle.memory.specs.Decode.{handleOf, countsWithin, slotsPart, slotsMade, arenaPart, arenaUsed, arenaIn}
+use Rattle.memory.proofs.Living.{node-some}
 use Rattle.memory.proofs.Counted.{counts-fit}
 use Rattle.memory.proofs.Columns.{length-gens, generation-in, kind-column, order-in, generation-past}
 use Rattle.entries.specs.Nodes.{noTexts, decodeNodes, wordsHold, kindNumber}
@@ -179,14 +178,6 @@ module _ (d : Document) (mem : List ℕ) where
 
 generation-column : (d : Document) (mem : List ℕ) (i : ℕ) → i < slotsMade d → getD (decodeNodes d mem .gens) i 0 ≡ generationAt (d .limits .nodes) (slotsPart d mem) i
 generation-column d mem i h = getD-tabulate (generationAt (d .limits .nodes) (slotsPart d mem)) (slotsMade d) i 0 h
-
-node-some : (r : NodeRecord) → isSome (kindLoaded (nodeOf r)) ≡ isNode r
-unfolding nodeOf
-node-some r = go (isNode r)
-  where
-    go : (t : Bool) → isSome (kindLoaded (cond t (Found (foundNode r)) NoNode)) ≡ t
-    go true = refl
-    go false = refl
 
 module _ (d : Document) (mem : List ℕ) where
   abbrev n : ℕ

@@ -9,7 +9,8 @@ use Rattle.names.specs.Table.{name}
 use Rattle.model.specs.Kinds.{attributes}
 use Rattle.model.specs.Calls.{hasName}
 use Rattle.memory.specs.Decode.{arenaIn, decode}
-use Rattle.plans.proofs.Searches.{find-start, find-here, find-on, find-end, ids-fit}
+use Rattle.words.proofs.Searches.{find-start, find-here, find-on, find-end}
+use Rattle.plans.proofs.Entries.{ids-fit}
 use Rattle.plans.proofs.finding.first_named.Statement.{statement}
 use Rattle.plans.proofs.finding.first_named.Tie as tie
 

@@ -8,7 +8,8 @@ use Rattle.words.specs.Lists.{find}
 use Rattle.model.specs.Kinds.{children}
 use Rattle.model.specs.Doc.{showsElement}
 use Rattle.memory.specs.Decode.{arenaIn, decode}
-use Rattle.plans.proofs.Searches.{find-start, find-here, find-on, find-end, ids-fit}
+use Rattle.words.proofs.Searches.{find-start, find-here, find-on, find-end}
+use Rattle.plans.proofs.Entries.{ids-fit}
 use Rattle.plans.proofs.root.first_element.Statement.{statement}
 use Rattle.plans.proofs.root.first_element.Tie as tie
 

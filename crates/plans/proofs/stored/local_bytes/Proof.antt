@@ -1,7 +1,6 @@
 -- `plans::stored::local_bytes` meets its contract.
 -- Assumes nothing.
 use Rattle.plans.proofs.Shown.{local-told}
-use borrow.Author.Needs.{needs}
 use Rattle.plans.proofs.stored.local_bytes.Statement.{statement}
 use Rattle.plans.proofs.stored.local_bytes.Tie as tie
 

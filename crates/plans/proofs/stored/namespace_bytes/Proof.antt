@@ -1,7 +1,6 @@
 -- `plans::stored::namespace_bytes` meets its contract.
 -- Assumes nothing.
 use Rattle.plans.proofs.Shown.{namespace-told}
-use borrow.Author.Needs.{needs}
 use Rattle.plans.proofs.stored.namespace_bytes.Statement.{statement}
 use Rattle.plans.proofs.stored.namespace_bytes.Tie as tie
 

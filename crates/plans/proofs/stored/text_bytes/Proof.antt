@@ -2,7 +2,6 @@
 -- Assumes nothing.
 use Rattle.memory.specs.Decode.{slotOf}
 use Rattle.plans.proofs.Shown.{text-told}
-use borrow.Author.Needs.{needs}
 use Rattle.plans.proofs.stored.text_bytes.Statement.{statement}
 use Rattle.plans.proofs.stored.text_bytes.Tie as tie
 

@@ -10,7 +10,8 @@ use Rattle.model.specs.Doc.{showsElement}
 use Rattle.memory.specs.Decode.{arenaIn, decode}
 use Rattle.memory.proofs.Shaped.{length-ids}
 use borrow.Author.Needs.{needs}
-use Rattle.reading.proofs.Elements.{find-start, find-here, find-next, find-passed}
+use Rattle.words.proofs.Searches.{find-start}
+use Rattle.reading.proofs.Elements.{find-shown, find-next, find-passed}
 use Rattle.reading.proofs.shown.first_element.Statement.{statement}
 use Rattle.reading.proofs.shown.first_element.Tie as tie
 
@@ -51,7 +52,7 @@ returns c =
     let s = c .before .before .before .before .before .before .before .before .before in
     let a = s .args in
     let z = length-ids (a .d) (a .mem .now) (s .pre .0) children in
-    find-here (showsElement (decode (a .d) (a .mem .now))) (arenaIn (a .d) children (a .mem .now) .ids) (a .block .start) (a .block .len) _ (c .before .before .before .before .before .loop .inv .1) (omega arith) (omega (arith, z)) _ _ _ (c .before .before .before .entry .ensures) (c .before .before .id-of .ensures) (c .before .shows-element .ensures) (c .if1 .taken)
+    find-shown (showsElement (decode (a .d) (a .mem .now))) (arenaIn (a .d) children (a .mem .now) .ids) (a .block .start) (a .block .len) _ (c .before .before .before .before .before .loop .inv .1) (omega arith) (omega (arith, z)) _ _ _ (c .before .before .before .entry .ensures) (c .before .before .id-of .ensures) (c .before .shows-element .ensures) (c .if1 .taken)
 
 add-k : tie.Need-add-k Inv-loop μ-loop
 add-k c = omega arith
