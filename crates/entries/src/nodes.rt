@@ -47,7 +47,7 @@ pub fn current_word(mem: &[u64], made: usize, handle: u64) -> bool
     both(mem[s] % 2 == 0, mem[s] == handle / 4294967296)
 }
 
-// The same where rule 1 holds of the slots' words.
+// Whether a handle resolves in the document: where rule 1 holds of the slots' words, its generation tells.
 pub fn is_current(d: Document, mem: &[u64], handle: u64) -> bool
     requires { ⌜ (memoryOk d (length (now mem)) ≡ true) × (wordsHold d (now mem) ≡ true) ⌝ }
     ensures { λ r. ⌜ r ≡ resolves (decodeNodes d (now (mem .entry))) handle ⌝ }
