@@ -39,7 +39,7 @@ use Rattle.memory.specs.Decode.{decode}
 use Rattle.reading.specs.Contract.{reads}
 use Rattle.editing.specs.Contract.{isEditing, outcome, Edits}
 use Rattle.tree.specs.Contract.{startable, Starts}
-use Rattle.tree.specs.Claim.{Event, Promised, PromisedBy, Called, noStep, treeAfter, outOf, Tells, Holds, PlainTree, DemandThree}
+use Rattle.tree.specs.Claim.{Event, Promised, PromisedBy, Called, noStep, treeAfter, outOf, Tells, lastRecord, lastMemory, treeEnd, Holds, PlainTree, DemandThree}
 
 -- a reading call leaves the document
 reading-keeps : (c : Call) (d : Doc) → isEditing c ≡ false → step c d .doc ≡ d
@@ -99,6 +99,20 @@ not-damaged S (calls.kindIs k a n) t e = (let z : _≡_ {A = ℕ} 0 1 = cc in om
 not-damaged S (calls.nameIs n) t e = (let z : _≡_ {A = ℕ} 0 1 = cc in omega arith)
 not-damaged S (calls.key k) t e = (let z : _≡_ {A = ℕ} 0 1 = cc in omega arith)
 not-damaged S (calls.keys l) t e = (let z : _≡_ {A = ℕ} 0 1 = cc in omega arith)
+
+-- an accepted call is a step of the plain tree
+pub accepted-steps : (a : Answered) → isRefusal a ≡ false → noStep a ≡ false
+accepted-steps (refused n) e = absurd (true≢false e)
+accepted-steps calls.done e = refl
+accepted-steps (calls.made h) e = refl
+accepted-steps (calls.truth b) e = refl
+accepted-steps (calls.node h) e = refl
+accepted-steps (calls.listed r l) e = refl
+accepted-steps (calls.everyNode l) e = refl
+accepted-steps (calls.kindIs k a n) e = refl
+accepted-steps (calls.nameIs n) e = refl
+accepted-steps (calls.key k) e = refl
+accepted-steps (calls.keys l) e = refl
 
 -- an event that was refused 4 and changed nothing, or one that made the call's step on the document
 pub data Made (d : Document) (mem : List ℕ) (e : Event) : Type 0 where
@@ -169,18 +183,18 @@ module _ (hs : ℕ → ℕ) where
     pub wf : WF t
     pub fits : memoryOk d (length mem) ≡ true
 
-  sound : {d : Document} {mem : List ℕ} {t : Tree} → Stands d mem t → rulesHold (decode d mem) ≡ true
+  pub sound : {d : Document} {mem : List ℕ} {t : Tree} → Stands d mem t → rulesHold (decode d mem) ≡ true
   sound {d} {mem} {t} S = test-of-rules (decode d mem) (rules-of-sim (decode d mem) t hs (S .sim) (S .wf))
 
-  abbrev Head : Event → Tree → Type 0
+  abbrev pub Head : Event → Tree → Type 0
   Head e t = t .births < treeAfter hs e t .births → hs (t .births) ≡ handleTold (e .call) (outOf e)
 
-  abbrev After : Event → Tree → Type 0
+  abbrev pub After : Event → Tree → Type 0
   After e t =
       Stands (e .document) (e .memory) (treeAfter hs e t) × (e .answer ≢ refused 5)
       × (noStep (e .answer) ≡ false → Agrees hs (e .call) (outOf e) (tree.step (e .call) hs t))
 
-  one-event : (d : Document) (mem : List ℕ) (t : Tree) (e : Event) → Stands d mem t → Promised d mem e → Head e t → After e t
+  pub one-event : (d : Document) (mem : List ℕ) (t : Tree) (e : Event) → Stands d mem t → Promised d mem e → Head e t → After e t
   one-event d mem t e S p told = go (made d mem e (S .fits) (sound S) p)
     where
       D : Doc
@@ -205,6 +219,13 @@ module _ (hs : ℕ → ℕ) where
             subst (λ (x : Answered). x ≢ refused 5) (sym a) (not-damaged (StaleIn D (e .call)) (step (e .call) D .answer) T),
             λ f. subst (λ (x : calls.Out). Agrees hs (e .call) x (tree.step (e .call) hs t)) (sym o) (n .2 (sym s ∙ f)),
           )
+
+  -- what stands before a list of calls stands at its end
+  pub stands-from : (es : List Event) (d : Document) (mem : List ℕ) (t : Tree) → Stands d mem t → Called d mem es → Tells hs es t
+      → Stands (lastRecord d es) (lastMemory mem es) (treeEnd hs es t)
+  stands-from [] d mem t S c o = S
+  stands-from (e ∷ es) d mem t S c o =
+      stands-from es (e .document) (e .memory) (treeAfter hs e t) (one-event d mem t e S (c .0) (o .0) .0) (c .1) (o .1)
 
   holds : (es : List Event) (d : Document) (mem : List ℕ) (t : Tree) → Stands d mem t → Called d mem es → Tells hs es t → Holds hs es d mem t
   holds [] d mem t S c o = explains (decode d mem) t hs (S .sim) (S .wf)
@@ -288,7 +309,7 @@ module _ (l : given.Limits) (mem mem′ : List ℕ) (d : Document) (S : Starts l
   unfolding startable
   limits-fit = and-left (limitsOk (limitsOf l)) (leb (documentWords (limitsOf l)) (length mem)) start-fits
 
-  fresh-stands : (hs : ℕ → ℕ) → hs 0 ≡ rootHandle → Stands hs d mem′ seed
+  pub fresh-stands : (hs : ℕ → ℕ) → hs 0 ≡ rootHandle → Stands hs d mem′ seed
   unfolding startable memoryOk
   fresh-stands hs root =
       record {
@@ -298,6 +319,11 @@ module _ (l : given.Limits) (mem mem′ : List ℕ) (d : Document) (S : Starts l
             ap (λ (x : given.Limits). limitsOk (limitsOf x) && leb (documentWords (limitsOf x)) (length mem′)) (S .laid refl .1)
             ∙ ap (λ (n : ℕ). limitsOk (limitsOf l) && leb (documentWords (limitsOf l)) n) (S .lent) ∙ start-fits;
       }
+
+  -- what an accepted Start leaves, and any list of calls after it
+  pub stands-after : (es : List Event) → Called d mem′ es → (hs : ℕ → ℕ) (root : hs 0 ≡ rootHandle) → Tells hs es seed
+      → Stands hs (lastRecord d es) (lastMemory mem′ es) (treeEnd hs es seed)
+  stands-after es c hs root o = stands-from hs es d mem′ seed (fresh-stands hs root) c o
 
   pub explained : (es : List Event) → Called d mem′ es → PlainTree d mem′ es
   explained es c =

@@ -73,6 +73,20 @@ Tells hs [] t = Unit {0}
 Tells hs (e ∷ es) t =
     (t .births < treeAfter hs e t .births → hs (t .births) ≡ handleTold (e .call) (outOf e)) × Tells hs es (treeAfter hs e t)
 
+-- ---- the end of a list: the record last returned, the memory as it is left, and the plain tree
+
+abbrev pub lastRecord : Document → List Event → Document
+lastRecord d [] = d
+lastRecord d (e ∷ es) = lastRecord (e .document) es
+
+abbrev pub lastMemory : List ℕ → List Event → List ℕ
+lastMemory mem [] = mem
+lastMemory mem (e ∷ es) = lastMemory (e .memory) es
+
+abbrev pub treeEnd : (ℕ → ℕ) → List Event → Tree → Tree
+treeEnd hs [] t = t
+treeEnd hs (e ∷ es) t = treeEnd hs es (treeAfter hs e t)
+
 -- ---- the claim
 
 -- At every place the memory is explained by the plain tree; no call is refused Damaged; every other answer but 4 and 14 is the plain tree's.

@@ -1,0 +1,83 @@
+-- A move that the document accepts is one that the plain tree makes.
+-- Assumes nothing.
+use mathlib.Core.Path.{_≡_, refl, sym, ap, _∙_}
+use mathlib.Core.Bool.{true, false, true≢false}
+use mathlib.Core.Option.{Option, none, some, Option·none-ne-some, Option·some-injective}
+use Prim.Native.Nat.{ℕ, zero, suc}
+use native.Mathlib.Omega.{arith}
+use lib.ListN.{length}
+use Rattle.model.specs.Kinds.{children, whichOf, childKind}
+use Rattle.model.specs.Doc.{Doc, viewAt, onPath}
+use Rattle.model.specs.Checks.{View, checkMove}
+use Rattle.model.specs.Calls.{isRefusal, guarded, moveTo, rootTaken, otherThan, done}
+use Rattle.model.specs.Calls as calls
+use Rattle.model.specs.Tree.{Tree, means, above, moved, rootElement}
+use Rattle.model.specs.Tree as tree
+use Rattle.model.proofs.Wf.{WF}
+use Rattle.model.proofs.Sim.{Sim}
+use Rattle.model.proofs.Basics.{by-handle, means-live}
+use Rattle.model.proofs.Views.{view-live, taken-by-other}
+use Rattle.model.proofs.Cycle.{cycle-agrees}
+use Rattle.model.proofs.Guards.{first-zero, stale-refused}
+use Rattle.model.proofs.WfEdits.{child-which}
+
+-- the births of the moved node and of its new parent, and the tree after the move
+pub record Goes (t : Tree) (hs : ℕ → ℕ) (p : ℕ) (at : Option ℕ) (c : ℕ) : Type 0 where
+  pub child : ℕ
+  pub parent : ℕ
+  pub isChild : means t hs c ≡ some child
+  pub isParent : means t hs p ≡ some parent
+  pub listed : whichOf (t .kind child) ≡ children
+  pub went : tree.moveTo t (means t hs p) at (means t hs c) .tree ≡ moved t parent at child
+
+-- a call that is not refused passed its checks
+passed : (n : ℕ) (d : Doc) (o : calls.Out) → isRefusal (guarded n d o .answer) ≡ false → n ≡ 0
+unfolding guarded
+passed zero d o f = refl
+passed (suc n) d o f = absurd (true≢false f)
+
+module _ (d : Doc) (t : Tree) (hs : ℕ → ℕ) (S : Sim d t hs) (W : WF t) where
+  abbrev check : View → View → ℕ → ℕ → ℕ
+  check node parent p c = checkMove node parent (onPath (length (d .gens)) d c p) (rootTaken d (some c))
+
+  checked : (at : Option ℕ) (p c : ℕ) → isRefusal (moveTo d p at c .answer) ≡ false → check (viewAt d c) (viewAt d p) p c ≡ 0
+  checked at p c f = first-zero (check (viewAt d c) (viewAt d p) p c) _ (passed _ d _ f) .0
+
+  both-live : (at : Option ℕ) (c p : ℕ) → t .live c ≡ true → t .live p ≡ true → isRefusal (moveTo d (hs p) at (hs c) .answer) ≡ false
+      → Goes t hs (hs p) at (hs c)
+  both-live at c p lc lp f =
+      let z : checkMove (some (t .kind c)) (some (t .kind p)) (above (t .births) (t .parent) c p) (otherThan (rootElement t) (some c)) ≡ 0 =
+      sym (rw (view-live d t hs S W c lc, view-live d t hs S W p lp, cycle-agrees S W c p lc lp, taken-by-other d t hs S W c lc)) ∙ checked at (hs p) (hs c) f in
+      record {
+        child = c;
+        parent = p;
+        isChild = means-live d t hs S c lc;
+        isParent = means-live d t hs S p lp;
+        listed = child-which (t .kind c) (first-zero (childKind (t .kind c)) _ z .0);
+        went = rw (means-live d t hs S c lc, means-live d t hs S p lp, z);
+      }
+
+  child-lives : (at : Option ℕ) (c : ℕ) → t .live c ≡ true → (p : ℕ) → isRefusal (moveTo d p at (hs c) .answer) ≡ false → Goes t hs p at (hs c)
+  child-lives at c lc =
+      by-handle d t hs S (λ p. isRefusal (moveTo d p at (hs c) .answer) ≡ false → Goes t hs p at (hs c))
+      (λ p lp f. both-live at c p lc lp f)
+      (λ p m r f. absurd (stale-parent p r f))
+    where
+      stale-parent : (p : ℕ) → Rattle.model.specs.Doc.resolves d p ≡ false → isRefusal (moveTo d p at (hs c) .answer) ≡ false → ⊥
+      stale-parent p r f =
+          let z : checkMove (some (t .kind c)) none (onPath (length (d .gens)) d (hs c) p) (rootTaken d (some (hs c))) ≡ 0 =
+          sym (rw (view-live d t hs S W c lc, r)) ∙ checked at p (hs c) f in
+          stale-refused (childKind (t .kind c)) z
+
+  pub goes : (at : Option ℕ) (p c : ℕ) → isRefusal (moveTo d p at c .answer) ≡ false → Goes t hs p at c
+  goes at p =
+      by-handle d t hs S (λ c. isRefusal (moveTo d p at c .answer) ≡ false → Goes t hs p at c)
+      (λ c lc f. child-lives at c lc p f)
+      (λ c m r f. let z : check none (viewAt d p) p c ≡ 0 = sym (rw r) ∙ checked at p c f in absurd (omega arith))
+
+  -- the birth that a handle means lives, and has it
+  pub meant : (h b : ℕ) → means t hs h ≡ some b → (t .live b ≡ true) × (hs b ≡ h)
+  meant =
+      by-handle d t hs S (λ h. (b : ℕ) → means t hs h ≡ some b → (t .live b ≡ true) × (hs b ≡ h))
+      (λ a la b e. let q : a ≡ b = Option·some-injective a b (sym (means-live d t hs S a la) ∙ e) in (ap (t .live) (sym q) ∙ la, ap hs (sym q)))
+      (λ h m r b e. absurd (Option·none-ne-some b (sym m ∙ e)))

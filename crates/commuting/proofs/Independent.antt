@@ -1,0 +1,40 @@
+-- What `independent` says of the nodes and of each parent.
+-- Assumes nothing.
+use mathlib.Core.Path.{_≡_, refl, sym, ap, _∙_}
+use mathlib.Core.Logic.{_≢_, _⊎_, inl, inr}
+use mathlib.Core.Bool.{Bool, true, false, not, _||_, true≢false, false≢true}
+use mathlib.Core.Option.{Option, none, some}
+use mathlib.Core.List.{List, _∷_}
+use Prim.Native.Nat.{ℕ}
+use borrow.Author.Tests.{eq-eqb}
+use lib.Dec.{eqb}
+use Rattle.words.specs.Lists.{any}
+use Rattle.words.proofs.Tests.{and-left, and-right}
+use Rattle.model.specs.Doc.{Doc, parentAt}
+use Rattle.commuting.specs.Moves.{Move, leaves, parentsOf, meet, independent}
+use Rattle.commuting.proofs.Commute.{Meets}
+
+none-of : (q : Bool) → not q ≡ true → q ≡ true → ⊥
+none-of true e f = false≢true e
+none-of false e f = false≢true f
+
+or-true : (a b : Bool) → b ≡ true → (a || b) ≡ true
+or-true true b e = refl
+or-true false b e = e
+
+-- a parent that a move leaves or enters is one of its parents
+among : (test : ℕ → Bool) (o : Option ℕ) (p x : ℕ) → Meets o p x → test x ≡ true → any test (p ∷ leaves o) ≡ true
+among test o p x (inl e) f = ap (λ (k : Option ℕ). test p || any test (leaves k)) e ∙ or-true (test p) (test x || false) (rw f)
+among test o p x (inr e) f = ap (λ (b : Bool). b || any test (leaves o)) (ap test e ∙ f)
+
+module _ (d : Doc) (m n : Move) (I : independent d m n ≡ true) where
+  pub different : m .node ≢ n .node
+  different e =
+      none-of (eqb (m .node) (n .node)) (and-left (not (eqb (m .node) (n .node))) (not (meet (parentsOf d m) (parentsOf d n))) I)
+      (eq-eqb (m .node) (n .node) e)
+
+  pub apart : (x : ℕ) → Meets (parentAt d (m .node)) (m .under) x → Meets (parentAt d (n .node)) (n .under) x → ⊥
+  apart x a b =
+      none-of (meet (parentsOf d m) (parentsOf d n)) (and-right (not (eqb (m .node) (n .node))) (not (meet (parentsOf d m) (parentsOf d n))) I)
+      (among (λ p. any (eqb p) (parentsOf d n)) (parentAt d (m .node)) (m .under) x a
+      (among (eqb x) (parentAt d (n .node)) (n .under) x b (eq-eqb x x refl)))

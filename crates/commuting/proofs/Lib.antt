@@ -1,0 +1,9 @@
+pub mod Moved
+pub mod Commute
+pub mod Independent
+pub mod Accepting
+pub mod Slots
+pub mod Keys
+pub mod Events
+pub mod Theorem
+pub mod Example
