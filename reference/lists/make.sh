@@ -1,5 +1,5 @@
 #!/usr/bin/env bash
-# Makes the generated lists and the answers of all lists anew. examples, refusals, limits and year are written by hand.
+# Makes the generated lists and the answers of all lists anew. examples, refusals, limits, either-order and year are written by hand.
 set -euo pipefail
 cd "$(dirname "$0")"
 programs=../target/release

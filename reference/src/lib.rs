@@ -23,6 +23,8 @@ mod judge;
 mod limits;
 mod memory;
 mod noise;
+#[cfg(feature = "port")]
+mod orders;
 mod parse;
 mod plain;
 #[cfg(feature = "port")]
@@ -43,6 +45,8 @@ pub use damage::{Tally, damage};
 pub use generate::{generate, profiles};
 pub use judge::judge;
 pub use memory::Memory;
+#[cfg(feature = "port")]
+pub use orders::{Pairs, orders};
 #[cfg(feature = "port")]
 pub use run::run_port;
 pub use run::{Options, Report, run};

@@ -7,9 +7,9 @@ use Prim.Native.Nat.{ℕ, zero, suc}
 use native.Mathlib.Omega.{arith}
 use lib.ListN.{length}
 use Rattle.model.specs.Kinds.{children, whichOf, childKind}
-use Rattle.model.specs.Doc.{Doc, viewAt, onPath}
+use Rattle.model.specs.Doc.{Doc, resolves, viewAt, onPath}
 use Rattle.model.specs.Checks.{View, checkMove}
-use Rattle.model.specs.Calls.{isRefusal, guarded, moveTo, rootTaken, otherThan, done}
+use Rattle.model.specs.Calls.{isRefusal, guarded, moveTo, rootTaken, otherThan}
 use Rattle.model.specs.Calls as calls
 use Rattle.model.specs.Tree.{Tree, means, above, moved, rootElement}
 use Rattle.model.specs.Tree as tree
@@ -63,7 +63,7 @@ module _ (d : Doc) (t : Tree) (hs : ℕ → ℕ) (S : Sim d t hs) (W : WF t) whe
       (λ p lp f. both-live at c p lc lp f)
       (λ p m r f. absurd (stale-parent p r f))
     where
-      stale-parent : (p : ℕ) → Rattle.model.specs.Doc.resolves d p ≡ false → isRefusal (moveTo d p at (hs c) .answer) ≡ false → ⊥
+      stale-parent : (p : ℕ) → resolves d p ≡ false → isRefusal (moveTo d p at (hs c) .answer) ≡ false → ⊥
       stale-parent p r f =
           let z : checkMove (some (t .kind c)) none (onPath (length (d .gens)) d (hs c) p) (rootTaken d (some (hs c))) ≡ 0 =
           sym (rw (view-live d t hs S W c lc, r)) ∙ checked at p (hs c) f in

@@ -16,7 +16,7 @@ use Rattle.model.specs.Claim.{Agrees, KeysAgree}
 use Rattle.memory.specs.declared.layout.Document.{Document}
 use Rattle.memory.specs.Decode.{decode}
 use Rattle.tree.specs.Claim.{Event, Promised, treeAfter, outOf}
-use Rattle.tree.proofs.Theorem.{Made, Stands, Head, After, made, sound, one-event, accepted-steps}
+use Rattle.tree.proofs.Theorem.{Made, Stands, After, made, sound, one-event, accepted-steps}
 use Rattle.commuting.specs.Moves.{Move, callAt, callOf}
 use Rattle.commuting.specs.EitherOrder.{Renewal}
 use Rattle.commuting.proofs.Moved.{moved-told}

@@ -2,11 +2,10 @@
 -- Assumes nothing.
 use mathlib.Core.Path.{_≡_, refl, sym, ap, _∙_, subst}
 use mathlib.Core.Logic.{inl}
-use mathlib.Core.Bool.{Bool, true, false, _&&_, true≢false}
+use mathlib.Core.Bool.{Bool, true, false, true≢false}
 use mathlib.Core.List.{List, [], _∷_}
 use Prim.Native.Nat.{ℕ}
 use native.Mathlib.Omega.{arith}
-use lib.Dec.{leb}
 use lib.ListN.{length, replicate, drop, drop-of-length-le}
 use Rattle.words.specs.Parts.{part, put}
 use Rattle.words.specs.Lists.{insertAt}
@@ -30,7 +29,6 @@ use Rattle.model.specs.Arguments.{isUtf8, nameCheck, namespaceCheck, textCheck}
 use Rattle.model.specs.Calls.{document-order, keys, isRefusal, guarded, step, done}
 use Rattle.model.specs.Tree.{Tree, seed}
 use Rattle.model.specs.Tree as tree
-use Rattle.memory.specs.declared.layout.Document.{Document}
 use Rattle.memory.specs.declared.layout.Limits as given
 use Rattle.memory.specs.Layout.{limitsOf, arenaAt, textsAt, namesAt, documentWords, scratchWords, memoryOk, buffersOk}
 use Rattle.memory.specs.Decode.{decode, countsWithin, lengthsAdd}
@@ -41,7 +39,7 @@ use Rattle.tree.specs.Claim.{Event, Promised, PromisedBy, Called, Tells, treeAf
 use Rattle.tree.proofs.Startable.{start-done}
 use Rattle.tree.proofs.Theorem.{Stands, sound, one-event, fresh-stands, stands-after}
 use Rattle.commuting.specs.Moves.{Move, callOf, independent}
-use Rattle.commuting.specs.EitherOrder.{InOrder, Renewal, EndAlike}
+use Rattle.commuting.specs.EitherOrder.{InOrder, Renewal}
 use Rattle.commuting.specs.Example.{limits, counted, fours, laid, threeNodes, event, handles, zoneMade, innerMade, register, zoneMove, innerMove, zoneEarlier, innerLater, innerEarlier, zoneLater, Example}
 use Rattle.commuting.proofs.Events.{went}
 use Rattle.commuting.proofs.Theorem.{either-order}
@@ -100,6 +98,20 @@ record Steps (b e : Event) : Type 0 where
   pub words : (length (b .memory) ≡ 80) × (length (e .memory) ≡ 80)
   pub scratch : (length (e .scratch) ≡ 28) × (e .scratchAfter ≡ replicate 28 0)
 
+steps : (b e : Event) → decode (e .document) (e .memory) ≡ step (e .call) (decode (b .document) (b .memory)) .doc
+    → e .answer ≡ step (e .call) (decode (b .document) (b .memory)) .answer → isRefusal (e .answer) ≡ false → isEditing (e .call) ≡ true
+    → (b .document .limits ≡ limits) × (e .document .limits ≡ limits) → (length (b .memory) ≡ 80) × (length (e .memory) ≡ 80)
+    → (length (e .scratch) ≡ 28) × (e .scratchAfter ≡ replicate 28 0) → Steps b e
+steps b e document answer accepted editing limits words scratch = record {
+  document = document;
+  answer = answer;
+  accepted = accepted;
+  editing = editing;
+  limits = limits;
+  words = words;
+  scratch = scratch;
+}
+
 record Computed : Type 0 where
   pub zone-made : Steps begun zoneMade
   pub inner-made : Steps zoneMade innerMade
@@ -118,78 +130,14 @@ computed : Computed
 unfolding guarded part put insertAt takes hasRoom inserted removed stored textsFit interned nameFits setParent born link unlink orderOf renewOrder isUtf8 nameCheck namespaceCheck textCheck text.isUtf8 ofText onText utf8.decode utf8.step utf8.stepAt two three four isNCName classOf within isNameStartChar isNameChar checkText isChar11 checkNamespace text.isWhiteSpace text.isSpace arenaAt textsAt namesAt generationAt freeAt recordAt nodeAt orderAt countsWithin lengthsAdd nodeOf isNode isData isParent areRanges isSpan dataOf nameShown nameThere pieceThere startOf partShown pieceShown piecePlace lengthOf tree.born tree.setParent tree.setList
 computed =
     record {
-      zone-made = record {
-        document = same-document _ _ refl refl refl refl refl (refl, refl, refl) (refl, refl, refl) refl refl refl refl refl refl;
-        answer = refl;
-        accepted = refl;
-        editing = refl;
-        limits = (refl, refl);
-        words = (refl, refl);
-        scratch = (refl, refl);
-      };
-      inner-made = record {
-        document = same-document _ _ refl refl refl refl refl (refl, refl, refl) (refl, refl, refl) refl refl refl refl refl refl;
-        answer = refl;
-        accepted = refl;
-        editing = refl;
-        limits = (refl, refl);
-        words = (refl, refl);
-        scratch = (refl, refl);
-      };
-      zone-earlier = record {
-        document = same-document _ _ refl refl refl refl refl (refl, refl, refl) (refl, refl, refl) refl refl refl refl refl refl;
-        answer = refl;
-        accepted = refl;
-        editing = refl;
-        limits = (refl, refl);
-        words = (refl, refl);
-        scratch = (refl, refl);
-      };
-      inner-later = record {
-        document = same-document _ _ refl refl refl refl refl (refl, refl, refl) (refl, refl, refl) refl refl refl refl refl refl;
-        answer = refl;
-        accepted = refl;
-        editing = refl;
-        limits = (refl, refl);
-        words = (refl, refl);
-        scratch = (refl, refl);
-      };
-      inner-earlier = record {
-        document = same-document _ _ refl refl refl refl refl (refl, refl, refl) (refl, refl, refl) refl refl refl refl refl refl;
-        answer = refl;
-        accepted = refl;
-        editing = refl;
-        limits = (refl, refl);
-        words = (refl, refl);
-        scratch = (refl, refl);
-      };
-      zone-later = record {
-        document = same-document _ _ refl refl refl refl refl (refl, refl, refl) (refl, refl, refl) refl refl refl refl refl refl;
-        answer = refl;
-        accepted = refl;
-        editing = refl;
-        limits = (refl, refl);
-        words = (refl, refl);
-        scratch = (refl, refl);
-      };
-      zone-first = record {
-        document = same-document _ _ refl refl refl refl refl (refl, refl, refl) (refl, refl, refl) refl refl refl refl refl refl;
-        answer = refl;
-        accepted = refl;
-        editing = refl;
-        limits = (refl, refl);
-        words = (refl, refl);
-        scratch = (refl, refl);
-      };
-      inner-first = record {
-        document = same-document _ _ refl refl refl refl refl (refl, refl, refl) (refl, refl, refl) refl refl refl refl refl refl;
-        answer = refl;
-        accepted = refl;
-        editing = refl;
-        limits = (refl, refl);
-        words = (refl, refl);
-        scratch = (refl, refl);
-      };
+      zone-made = steps _ _ (same-document _ _ refl refl refl refl refl (refl, refl, refl) (refl, refl, refl) refl refl refl refl refl refl) refl refl refl (refl, refl) (refl, refl) (refl, refl);
+      inner-made = steps _ _ (same-document _ _ refl refl refl refl refl (refl, refl, refl) (refl, refl, refl) refl refl refl refl refl refl) refl refl refl (refl, refl) (refl, refl) (refl, refl);
+      zone-earlier = steps _ _ (same-document _ _ refl refl refl refl refl (refl, refl, refl) (refl, refl, refl) refl refl refl refl refl refl) refl refl refl (refl, refl) (refl, refl) (refl, refl);
+      inner-later = steps _ _ (same-document _ _ refl refl refl refl refl (refl, refl, refl) (refl, refl, refl) refl refl refl refl refl refl) refl refl refl (refl, refl) (refl, refl) (refl, refl);
+      inner-earlier = steps _ _ (same-document _ _ refl refl refl refl refl (refl, refl, refl) (refl, refl, refl) refl refl refl refl refl refl) refl refl refl (refl, refl) (refl, refl) (refl, refl);
+      zone-later = steps _ _ (same-document _ _ refl refl refl refl refl (refl, refl, refl) (refl, refl, refl) refl refl refl refl refl refl) refl refl refl (refl, refl) (refl, refl) (refl, refl);
+      zone-first = steps _ _ (same-document _ _ refl refl refl refl refl (refl, refl, refl) (refl, refl, refl) refl refl refl refl refl refl) refl refl refl (refl, refl) (refl, refl) (refl, refl);
+      inner-first = steps _ _ (same-document _ _ refl refl refl refl refl (refl, refl, refl) (refl, refl, refl) refl refl refl refl refl refl) refl refl refl (refl, refl) (refl, refl) (refl, refl);
       told = (λ lt. refl, (λ lt. refl, tt));
       apart = refl;
       ranges = (refl, refl);

@@ -15,7 +15,7 @@ use Rattle.memory.specs.declared.layout.Document.{Document}
 use Rattle.memory.specs.Layout.{memoryOk}
 use Rattle.memory.specs.Decode.{decode}
 use Rattle.reading.specs.Contract.{reads}
-use Rattle.tree.specs.Claim.{Event, treeAfter}
+use Rattle.tree.specs.Claim.{treeAfter}
 use Rattle.tree.proofs.Theorem.{Stands, stands-after}
 use Rattle.commuting.specs.Moves.{Move, independent}
 use Rattle.commuting.specs.EitherOrder.{InOrder, Renewal, documentEnd, plainEnd, EndAlike, EitherOrder}

@@ -15,7 +15,10 @@ fn main() -> ExitCode {
                 "{} damaged states: {} break a rule, {} keep them all, {} have limits or lengths that are refused",
                 tally.states, tally.broken, tally.sound, tally.refused
             );
-            println!("{} calls, each answered as it is due; every accepted one left a document that keeps the rules", tally.calls);
+            println!(
+                "{} calls, each answered as it is due; every accepted one left a document that keeps the rules",
+                tally.calls
+            );
             ExitCode::SUCCESS
         }
         Err(fault) => {

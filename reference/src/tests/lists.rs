@@ -68,6 +68,21 @@ fn is_last(answers: &str, due: &str) -> bool {
     }
 }
 
+/// The list has the two orders one behind the other, each on a document of its own.
+#[test]
+fn two_moves_answer_alike_in_either_order_but_for_the_ranges() {
+    let list = read("either-order", "calls");
+    let (one, other) = list.split_once("\nfresh\n").expect("two documents");
+    let [one, other] = [one, other].map(|half| answer(half).0);
+    let parts = |answers: &str| -> (Vec<String>, Vec<String>) {
+        answers.lines().map(ToString::to_string).partition(|line| line.starts_with("r "))
+    };
+    let ((one_ranges, one_rest), (other_ranges, other_rest)) = (parts(&one), parts(&other));
+    assert_eq!(one_rest, other_rest);
+    assert!(one_rest.iter().all(|line| line == "! 15" || !line.starts_with('!')), "{one}");
+    assert_ne!(one_ranges, other_ranges);
+}
+
 /// Each call with every refusal that it can have.
 const REFUSALS: [(&str, &[u8]); 14] = [
     ("append_element", &[1, 2, 3, 6, 8, 12]),
