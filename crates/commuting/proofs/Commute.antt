@@ -49,35 +49,34 @@ update-swap f a b u v n x = go (ℕ-discrete x a) (ℕ-discrete x b)
     go (no e) (yes g) = rw (ne-eqb x a e, eq-eqb x b g)
     go (no e) (no g) = rw (ne-eqb x a e, ne-eqb x b g)
 
+-- a goes from where it stands to p, b from where it stands to q
 module _ (t : Tree) (p q : ℕ) (at bt : Option ℕ) (a b : ℕ) (n : a ≢ b)
     (apart : (x : ℕ) → Meets (t .parent a) p x → Meets (t .parent b) q x → ⊥) where
-  abbrev o₁ : Option ℕ
-  o₁ = t .parent a
+  abbrev a-from : Option ℕ
+  a-from = t .parent a
 
-  abbrev o₂ : Option ℕ
-  o₂ = t .parent b
+  abbrev b-from : Option ℕ
+  b-from = t .parent b
 
-  lists-swap : (x : ℕ) (l : List ℕ) → across o₂ q bt b x (across o₁ p at a x l) ≡ across o₁ p at a x (across o₂ q bt b x l)
-  lists-swap x l = go (meets-or-not o₁ p x)
+  -- at each list one of the two does nothing
+  list-swap : (x : ℕ) (l : List ℕ) → across b-from q bt b x (across a-from p at a x l) ≡ across a-from p at a x (across b-from q bt b x l)
+  list-swap x l = go (meets-or-not a-from p x)
     where
-      go : Meets o₁ p x ⊎ (Meets o₁ p x → ⊥) → across o₂ q bt b x (across o₁ p at a x l) ≡ across o₁ p at a x (across o₂ q bt b x l)
+      go : Meets a-from p x ⊎ (Meets a-from p x → ⊥) → across b-from q bt b x (across a-from p at a x l) ≡ across a-from p at a x (across b-from q bt b x l)
       go (inl m) =
           let z = apart x m in
-          across-other o₂ q bt b x (across o₁ p at a x l) z ∙ ap (across o₁ p at a x) (sym (across-other o₂ q bt b x l z))
+          across-other b-from q bt b x (across a-from p at a x l) z ∙ ap (across a-from p at a x) (sym (across-other b-from q bt b x l z))
       go (inr m) =
-          ap (across o₂ q bt b x) (across-other o₁ p at a x l m) ∙ sym (across-other o₁ p at a x (across o₂ q bt b x l) m)
+          ap (across b-from q bt b x) (across-other a-from p at a x l m) ∙ sym (across-other a-from p at a x (across b-from q bt b x l) m)
 
-  lists-agree : (r₂ : Option ℕ) → r₂ ≡ o₂ → (r₁ : Option ℕ) → r₁ ≡ o₁ → (w : Which) (x : ℕ)
-      → listsAfter (listsAfter (t .lists) o₁ p at a) r₂ q bt b w x ≡ listsAfter (listsAfter (t .lists) o₂ q bt b) r₁ p at a w x
-  lists-agree r₂ e₂ r₁ e₁ children x = rw (e₁, e₂) (lists-swap x (t .lists children x))
-  lists-agree r₂ e₂ r₁ e₁ attributes x = refl
-  lists-agree r₂ e₂ r₁ e₁ namespaces x = refl
-
-  lists-same : (w : Which) (x : ℕ)
-      → listsAfter (listsAfter (t .lists) o₁ p at a) (update (t .parent) a (some p) b) q bt b w x ≡ listsAfter (listsAfter (t .lists) o₂ q bt b) (update (t .parent) b (some q) a) p at a w x
-  lists-same w x =
-      lists-agree (update (t .parent) a (some p) b) (update-other (t .parent) a (some p) b (λ e. n (sym e)))
-      (update (t .parent) b (some q) a) (update-other (t .parent) b (some q) a n) w x
+  -- each leaves the parent of the other, so that the second leaves from where it stood at first
+  lists-swap : (w : Which) (x : ℕ)
+      → listsAfter (listsAfter (t .lists) a-from p at a) (update (t .parent) a (some p) b) q bt b w x
+      ≡ listsAfter (listsAfter (t .lists) b-from q bt b) (update (t .parent) b (some q) a) p at a w x
+  lists-swap children x =
+      rw (update-other (t .parent) a (some p) b (λ e. n (sym e)), update-other (t .parent) b (some q) a n) (list-swap x (t .lists children x))
+  lists-swap attributes x = refl
+  lists-swap namespaces x = refl
 
   shifted-swap : shifted (shifted t p at a) q bt b ≡ shifted (shifted t q bt b) p at a
   shifted-swap = λ i. record {
@@ -85,16 +84,14 @@ module _ (t : Tree) (p q : ℕ) (at bt : Option ℕ) (a b : ℕ) (n : a ≢ b)
     live = t .live;
     kind = t .kind;
     parent = fun-ext (update-swap (t .parent) a b (some p) (some q) n) i;
-    lists = fun-ext (λ w. fun-ext (λ x. lists-same w x)) i;
+    lists = fun-ext (λ w. fun-ext (λ x. lists-swap w x)) i;
     current = false;
   }
 
   pub moves-commute : whichOf (t .kind a) ≡ children → whichOf (t .kind b) ≡ children → moved (moved t p at a) q bt b ≡ moved (moved t q bt b) p at a
   moves-commute ka kb =
-      let one = moved-told t p at a ka in
-      let two = moved-told t q bt b kb in
-      ap (λ (u : Tree). moved u q bt b) one
+      ap (λ (u : Tree). moved u q bt b) (moved-told t p at a ka)
       ∙ moved-told (shifted t p at a) q bt b kb
       ∙ shifted-swap
       ∙ sym (moved-told (shifted t q bt b) p at a ka)
-      ∙ ap (λ (u : Tree). moved u p at a) (sym two)
+      ∙ ap (λ (u : Tree). moved u p at a) (sym (moved-told t q bt b kb))

@@ -11,7 +11,7 @@ use lib.Dec.{eqb}
 use Rattle.words.specs.Lists.{any}
 use Rattle.words.proofs.Tests.{and-left, and-right}
 use Rattle.model.specs.Doc.{Doc, parentAt}
-use Rattle.commuting.specs.Moves.{Move, leaves, parentsOf, meet, independent}
+use Rattle.commuting.specs.Moves.{Move, leaves, parentsOf, meet, different, apart, independent}
 use Rattle.commuting.proofs.Commute.{Meets}
 
 none-of : (q : Bool) → not q ≡ true → q ≡ true → ⊥
@@ -28,13 +28,11 @@ among test o p x (inl e) f = ap (λ (k : Option ℕ). test p || any test (leaves
 among test o p x (inr e) f = ap (λ (b : Bool). b || any test (leaves o)) (ap test e ∙ f)
 
 module _ (d : Doc) (m n : Move) (I : independent d m n ≡ true) where
-  pub different : m .node ≢ n .node
-  different e =
-      none-of (eqb (m .node) (n .node)) (and-left (not (eqb (m .node) (n .node))) (not (meet (parentsOf d m) (parentsOf d n))) I)
-      (eq-eqb (m .node) (n .node) e)
+  pub nodes-differ : m .node ≢ n .node
+  nodes-differ e = none-of (eqb (m .node) (n .node)) (and-left (different m n) (apart d m n) I) (eq-eqb (m .node) (n .node) e)
 
-  pub apart : (x : ℕ) → Meets (parentAt d (m .node)) (m .under) x → Meets (parentAt d (n .node)) (n .under) x → ⊥
-  apart x a b =
-      none-of (meet (parentsOf d m) (parentsOf d n)) (and-right (not (eqb (m .node) (n .node))) (not (meet (parentsOf d m) (parentsOf d n))) I)
+  pub parents-differ : (x : ℕ) → Meets (parentAt d (m .node)) (m .under) x → Meets (parentAt d (n .node)) (n .under) x → ⊥
+  parents-differ x a b =
+      none-of (meet (parentsOf d m) (parentsOf d n)) (and-right (different m n) (apart d m n) I)
       (among (λ p. any (eqb p) (parentsOf d n)) (parentAt d (m .node)) (m .under) x a
       (among (eqb x) (parentAt d (n .node)) (n .under) x b (eq-eqb x x refl)))

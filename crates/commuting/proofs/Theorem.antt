@@ -21,7 +21,7 @@ use Rattle.commuting.specs.Moves.{Move, independent}
 use Rattle.commuting.specs.EitherOrder.{InOrder, Renewal, documentEnd, plainEnd, EndAlike, EitherOrder}
 use Rattle.commuting.proofs.Moved.{moved-told}
 use Rattle.commuting.proofs.Commute.{Meets, moves-commute}
-use Rattle.commuting.proofs.Independent as parents
+use Rattle.commuting.proofs.Independent.{nodes-differ, parents-differ}
 use Rattle.commuting.proofs.Accepting.{Goes, meant}
 use Rattle.commuting.proofs.Slots.{SameSlots, same-trans, same-sym, same-resolves}
 use Rattle.commuting.proofs.Keys.{same-key, same-words}
@@ -87,10 +87,10 @@ module _ (hs : ℕ → ℕ) {d : Document} {mem : List ℕ} {t : Tree} (S : Stan
     H = first-move n m y .goes
 
     differ : G .child ≢ H .child
-    differ e = parents.different (decode d mem) m n I (sym (node-meant m n x) ∙ ap hs e ∙ node-meant n m y)
+    differ e = nodes-differ (decode d mem) m n I (sym (node-meant m n x) ∙ ap hs e ∙ node-meant n m y)
 
     apart : (u : ℕ) → Meets (t .parent (G .child)) (G .parent) u → Meets (t .parent (H .child)) (H .parent) u → ⊥
-    apart u e f = parents.apart (decode d mem) m n I (hs u) (parents-meant m n x u e) (parents-meant n m y u f)
+    apart u e f = parents-differ (decode d mem) m n I (hs u) (parents-meant m n x u e) (parents-meant n m y u f)
 
     trees : plainEnd hs t x ≡ plainEnd hs t y
     trees =

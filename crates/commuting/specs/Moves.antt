@@ -34,6 +34,13 @@ parentsOf d m = m .under ∷ leaves (parentAt d (m .node))
 abbrev pub meet : List ℕ → List ℕ → Bool
 meet l k = any (λ p. any (eqb p) k) l
 
--- "two moves of different nodes, the parents that one leaves and enters being none of the other's"
+-- "two moves of different nodes"
+abbrev pub different : Move → Move → Bool
+different m n = not (eqb (m .node) (n .node))
+
+-- "the parents that one leaves and enters being none of the other's"
+abbrev pub apart : Doc → Move → Move → Bool
+apart d m n = not (meet (parentsOf d m) (parentsOf d n))
+
 abbrev pub independent : Doc → Move → Move → Bool
-independent d m n = not (eqb (m .node) (n .node)) && not (meet (parentsOf d m) (parentsOf d n))
+independent d m n = different m n && apart d m n

@@ -186,7 +186,7 @@ module _ (hs : ℕ → ℕ) where
   pub sound : {d : Document} {mem : List ℕ} {t : Tree} → Stands d mem t → rulesHold (decode d mem) ≡ true
   sound {d} {mem} {t} S = test-of-rules (decode d mem) (rules-of-sim (decode d mem) t hs (S .sim) (S .wf))
 
-  abbrev pub Head : Event → Tree → Type 0
+  abbrev Head : Event → Tree → Type 0
   Head e t = t .births < treeAfter hs e t .births → hs (t .births) ≡ handleTold (e .call) (outOf e)
 
   abbrev pub After : Event → Tree → Type 0
@@ -221,7 +221,7 @@ module _ (hs : ℕ → ℕ) where
           )
 
   -- what stands before a list of calls stands at its end
-  pub stands-from : (es : List Event) (d : Document) (mem : List ℕ) (t : Tree) → Stands d mem t → Called d mem es → Tells hs es t
+  stands-from : (es : List Event) (d : Document) (mem : List ℕ) (t : Tree) → Stands d mem t → Called d mem es → Tells hs es t
       → Stands (lastRecord d es) (lastMemory mem es) (treeEnd hs es t)
   stands-from [] d mem t S c o = S
   stands-from (e ∷ es) d mem t S c o =
