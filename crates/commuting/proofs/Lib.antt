@@ -6,4 +6,5 @@ pub mod Slots
 pub mod Keys
 pub mod Events
 pub mod Theorem
+pub mod Computed
 pub mod Example

@@ -40,7 +40,7 @@ nodeWords kind parent b = kind ∷ 0 ∷ 0 ∷ 0 ∷ parent ∷ 0 ∷ b .start �
 abbrev pub fours : ℕ → ℕ → ℕ → ℕ → List ℕ
 fours a b c d = a ∷ 0 ∷ 0 ∷ 0 ∷ b ∷ 0 ∷ 0 ∷ 0 ∷ c ∷ 0 ∷ 0 ∷ 0 ∷ d ∷ 0 ∷ 0 ∷ 0 ∷ []
 
--- no generation and no free slot, three records, their order words, the children's entries and capacities, and the name "z"
+-- generations and the free stack, all zero; three records and their order words; the children's entries and capacities; the name "z"
 abbrev pub laid : List ℕ → List ℕ → List ℕ → List ℕ → List ℕ
 laid nodes order ids capacities = replicate 6 0 ++ nodes ++ order ++ ids ++ capacities ++ (0 ∷ 1 ∷ 122 ∷ [])
 
@@ -48,6 +48,7 @@ laid nodes order ids capacities = replicate 6 0 ++ nodes ++ order ++ ids ++ capa
 abbrev pub threeNodes : Block → Block → List ℕ
 threeNodes root zone = nodeWords 0 0 root ++ nodeWords 1 1 zone ++ nodeWords 1 2 (block 0 0)
 
+-- order words of an order that is not current
 abbrev pub stale : List ℕ
 stale = 0 ∷ noKey ∷ noKey ∷ []
 
