@@ -1,16 +1,16 @@
 -- A move that the document accepts is one that the plain tree makes.
 -- Assumes nothing.
-use mathlib.Core.Path.{_≡_, refl, sym, ap, _∙_}
-use mathlib.Core.Bool.{true, false, true≢false}
+use mathlib.Core.Path.{_≡_, sym, ap, _∙_}
+use mathlib.Core.Bool.{true, false}
 use mathlib.Core.Option.{Option, none, some, Option·none-ne-some, Option·some-injective}
-use Prim.Native.Nat.{ℕ, zero, suc}
+use Prim.Native.Nat.{ℕ}
 use native.Mathlib.Omega.{arith}
 use lib.ListN.{length}
 use Rattle.model.specs.Kinds.{children, whichOf, childKind}
 use Rattle.model.specs.Doc.{Doc, resolves, viewAt, onPath}
 use Rattle.model.specs.Checks.{View, checkMove}
-use Rattle.model.specs.Calls.{isRefusal, guarded, moveTo, rootTaken, otherThan}
-use Rattle.model.specs.Calls as calls
+use Rattle.model.specs.Edits.{unhook}
+use Rattle.model.specs.Calls.{isRefusal, moveTo, rootTaken, roomFits, otherThan}
 use Rattle.model.specs.Tree.{Tree, means, above, moved, rootElement}
 use Rattle.model.specs.Tree as tree
 use Rattle.model.proofs.Wf.{WF}
@@ -20,6 +20,7 @@ use Rattle.model.proofs.Views.{view-live, taken-by-other}
 use Rattle.model.proofs.Cycle.{cycle-agrees}
 use Rattle.model.proofs.Guards.{first-zero, stale-refused}
 use Rattle.model.proofs.WfEdits.{child-which}
+use Rattle.edits.proofs.Accepted.{checked-room}
 
 -- the births of the moved node and of its new parent, and the tree after the move
 pub record Goes (t : Tree) (hs : ℕ → ℕ) (p : ℕ) (at : Option ℕ) (c : ℕ) : Type 0 where
@@ -30,18 +31,12 @@ pub record Goes (t : Tree) (hs : ℕ → ℕ) (p : ℕ) (at : Option ℕ) (c : �
   pub listed : whichOf (t .kind child) ≡ children
   pub went : tree.moveTo t (means t hs p) at (means t hs c) .tree ≡ moved t parent at child
 
--- a call that is not refused passed its checks
-passed : (n : ℕ) (d : Doc) (o : calls.Out) → isRefusal (guarded n d o .answer) ≡ false → n ≡ 0
-unfolding guarded
-passed zero d o f = refl
-passed (suc n) d o f = absurd (true≢false f)
-
 module _ (d : Doc) (t : Tree) (hs : ℕ → ℕ) (S : Sim d t hs) (W : WF t) where
   abbrev check : View → View → ℕ → ℕ → ℕ
   check node parent p c = checkMove node parent (onPath (length (d .gens)) d c p) (rootTaken d (some c))
 
   checked : (at : Option ℕ) (p c : ℕ) → isRefusal (moveTo d p at c .answer) ≡ false → check (viewAt d c) (viewAt d p) p c ≡ 0
-  checked at p c f = first-zero (check (viewAt d c) (viewAt d p) p c) _ (passed _ d _ f) .0
+  checked at p c f = checked-room (check (viewAt d c) (viewAt d p) p c) (roomFits (unhook d c) children p) d _ f .0
 
   both-live : (at : Option ℕ) (c p : ℕ) → t .live c ≡ true → t .live p ≡ true → isRefusal (moveTo d (hs p) at (hs c) .answer) ≡ false
       → Goes t hs (hs p) at (hs c)

@@ -1,4 +1,4 @@
--- Two moves of different nodes that touch no parent in common commute on the plain tree.
+-- Two moves of different nodes commute on the plain tree, where no parent is left or entered by both.
 -- Assumes nothing.
 use mathlib.Core.Path.{_≡_, refl, sym, ap, _∙_, fun-ext}
 use mathlib.Core.Logic.{_≢_, _⊎_, inl, inr}
@@ -14,28 +14,28 @@ use Rattle.model.proofs.Basics.{update-other}
 use Rattle.commuting.proofs.Moved.{left, across, listsAfter, shifted, moved-told}
 
 -- x is the parent that a move leaves, or the one that it enters
-abbrev pub Meets : Option ℕ → ℕ → ℕ → Type 0
-Meets o p x = (o ≡ some x) ⊎ (p ≡ x)
+abbrev pub Touched : Option ℕ → ℕ → ℕ → Type 0
+Touched o p x = (o ≡ some x) ⊎ (p ≡ x)
 
 left-other : (o : Option ℕ) (c x : ℕ) (l : List ℕ) → (o ≢ some x) → left o c x l ≡ l
 left-other none c x l n = refl
 left-other (some q) c x l n = rw (ne-eqb x q (λ e. n (ap {B = Option ℕ} some (sym e))))
 
-across-other : (o : Option ℕ) (p : ℕ) (at : Option ℕ) (c x : ℕ) (l : List ℕ) → (Meets o p x → ⊥) → across o p at c x l ≡ l
+across-other : (o : Option ℕ) (p : ℕ) (at : Option ℕ) (c x : ℕ) (l : List ℕ) → (Touched o p x → ⊥) → across o p at c x l ≡ l
 across-other o p at c x l n = rw (ne-eqb x p (λ e. n (inr (sym e)))) (left-other o c x l (λ e. n (inl e)))
 
-meets-or-not : (o : Option ℕ) (p x : ℕ) → Meets o p x ⊎ (Meets o p x → ⊥)
-meets-or-not o p x = go o (ℕ-discrete p x)
+touched-or-not : (o : Option ℕ) (p x : ℕ) → Touched o p x ⊎ (Touched o p x → ⊥)
+touched-or-not o p x = go o (ℕ-discrete p x)
   where
-    not-both : (o : Option ℕ) → (o ≢ some x) → (p ≢ x) → Meets o p x → ⊥
+    not-both : (o : Option ℕ) → (o ≢ some x) → (p ≢ x) → Touched o p x → ⊥
     not-both o a b (inl e) = a e
     not-both o a b (inr e) = b e
 
-    in-some : (q : ℕ) → p ≢ x → Dec (q ≡ x) → Meets (some q) p x ⊎ (Meets (some q) p x → ⊥)
+    in-some : (q : ℕ) → p ≢ x → Dec (q ≡ x) → Touched (some q) p x ⊎ (Touched (some q) p x → ⊥)
     in-some q b (yes e) = inl (inl (ap {B = Option ℕ} some e))
     in-some q b (no n) = inr (not-both (some q) (λ e. n (Option·some-injective q x e)) b)
 
-    go : (o : Option ℕ) → Dec (p ≡ x) → Meets o p x ⊎ (Meets o p x → ⊥)
+    go : (o : Option ℕ) → Dec (p ≡ x) → Touched o p x ⊎ (Touched o p x → ⊥)
     go o (yes e) = inl (inr e)
     go none (no n) = inr (not-both none (λ e. Option·none-ne-some x e) n)
     go (some q) (no n) = in-some q n (ℕ-discrete q x)
@@ -51,7 +51,7 @@ update-swap f a b u v n x = go (ℕ-discrete x a) (ℕ-discrete x b)
 
 -- a goes from where it stands to p, b from where it stands to q
 module _ (t : Tree) (p q : ℕ) (at bt : Option ℕ) (a b : ℕ) (n : a ≢ b)
-    (apart : (x : ℕ) → Meets (t .parent a) p x → Meets (t .parent b) q x → ⊥) where
+    (apart : (x : ℕ) → Touched (t .parent a) p x → Touched (t .parent b) q x → ⊥) where
   abbrev a-from : Option ℕ
   a-from = t .parent a
 
@@ -60,16 +60,16 @@ module _ (t : Tree) (p q : ℕ) (at bt : Option ℕ) (a b : ℕ) (n : a ≢ b)
 
   -- at each list one of the two does nothing
   list-swap : (x : ℕ) (l : List ℕ) → across b-from q bt b x (across a-from p at a x l) ≡ across a-from p at a x (across b-from q bt b x l)
-  list-swap x l = go (meets-or-not a-from p x)
+  list-swap x l = go (touched-or-not a-from p x)
     where
-      go : Meets a-from p x ⊎ (Meets a-from p x → ⊥) → across b-from q bt b x (across a-from p at a x l) ≡ across a-from p at a x (across b-from q bt b x l)
+      go : Touched a-from p x ⊎ (Touched a-from p x → ⊥) → across b-from q bt b x (across a-from p at a x l) ≡ across a-from p at a x (across b-from q bt b x l)
       go (inl m) =
           let z = apart x m in
           across-other b-from q bt b x (across a-from p at a x l) z ∙ ap (across a-from p at a x) (sym (across-other b-from q bt b x l z))
       go (inr m) =
           ap (across b-from q bt b x) (across-other a-from p at a x l m) ∙ sym (across-other a-from p at a x (across b-from q bt b x l) m)
 
-  -- each leaves the parent of the other, so that the second leaves from where it stood at first
+  -- a move changes the parent of no other node, so that each node leaves the parent that it had before both
   lists-swap : (w : Which) (x : ℕ)
       → listsAfter (listsAfter (t .lists) a-from p at a) (update (t .parent) a (some p) b) q bt b w x
       ≡ listsAfter (listsAfter (t .lists) b-from q bt b) (update (t .parent) b (some q) a) p at a w x

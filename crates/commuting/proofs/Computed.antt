@@ -110,7 +110,7 @@ pub record Computed : Type 0 where
   pub zone-first : Steps innerLater zoneFirstRenewed
   pub inner-first : Steps zoneLater innerFirstRenewed
   pub told : Tells handles register seed
-  pub apart : independent (decode (innerMade .document) (innerMade .memory)) zoneMove innerMove ≡ true
+  pub independently : independent (decode (innerMade .document) (innerMade .memory)) zoneMove innerMove ≡ true
   pub ranges : (rangeIn (decode (innerLater .document) (innerLater .memory)) children 0 ≡ block 8 1)
       × (rangeIn (decode (zoneLater .document) (zoneLater .memory)) children 0 ≡ block 12 1)
 
@@ -127,6 +127,6 @@ computed =
       zone-first = steps _ _ (same-document _ _ refl refl refl refl refl (refl, refl, refl) (refl, refl, refl) refl refl refl refl refl refl) refl refl refl (refl, refl) (refl, refl) (refl, refl);
       inner-first = steps _ _ (same-document _ _ refl refl refl refl refl (refl, refl, refl) (refl, refl, refl) refl refl refl refl refl refl) refl refl refl (refl, refl) (refl, refl) (refl, refl);
       told = (λ lt. refl, (λ lt. refl, tt));
-      apart = refl;
+      independently = refl;
       ranges = (refl, refl);
     }

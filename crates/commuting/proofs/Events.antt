@@ -1,7 +1,7 @@
 -- What an accepted move, and an accepted renewal of the order, leave: over what the calls promise.
 -- Assumes nothing.
 use mathlib.Core.Path.{_≡_, refl, sym, ap, _∙_, subst}
-use mathlib.Core.Logic.{_⊎_, inl, inr}
+use mathlib.Core.Logic.{inl, inr}
 use mathlib.Core.Bool.{Bool, true, false, cond, true≢false}
 use mathlib.Core.Option.{Option, none, some}
 use mathlib.Core.List.{List}
@@ -18,7 +18,7 @@ use Rattle.memory.specs.Decode.{decode}
 use Rattle.tree.specs.Claim.{Event, Promised, treeAfter, outOf}
 use Rattle.tree.proofs.Theorem.{Made, Stands, After, made, sound, one-event, accepted-steps}
 use Rattle.commuting.specs.Moves.{Move, callAt, callOf}
-use Rattle.commuting.specs.EitherOrder.{Renewal}
+use Rattle.commuting.specs.EitherOrder.{Renews, Renewal}
 use Rattle.commuting.proofs.Moved.{moved-told}
 use Rattle.commuting.proofs.Accepting.{Goes, goes}
 use Rattle.commuting.proofs.Slots.{SameSlots, moved-same, ordered-same}
@@ -94,7 +94,7 @@ module _ (hs : ℕ → ℕ) where
       now : treeAfter hs v t ≡ setCurrent t
       now = go (r .renews)
         where
-          go : (v .call ≡ document-order) ⊎ (v .call ≡ compact) → treeAfter hs v t ≡ setCurrent t
+          go : Renews (v .call) → treeAfter hs v t ≡ setCurrent t
           go (inl q) = tree-stepped S v (r .promised) (r .accepted) document-order q
           go (inr q) = tree-stepped S v (r .promised) (r .accepted) compact q
 

@@ -92,7 +92,7 @@ module _ (m n : Move) (e f : Event) (p : e .call ≡ callOf m) (q : f .call ≡ 
         accepted = (s .accepted, u .accepted);
       }
 
-  renewal : (r : Event) → r .call ≡ document-order → Steps f r → Renewal f
+  abbrev renewal : (r : Event) → r .call ≡ document-order → Steps f r → Renewal f
   renewal r c v =
       record {
         event = r;
@@ -113,7 +113,7 @@ example =
       started = started;
       called = called;
       told = computed .told;
-      apart = computed .apart;
+      areIndependent = computed .independently;
       zoneFirst = zone-first;
       innerFirst = inner-first;
       later = (refl, refl);
@@ -121,8 +121,9 @@ example =
         renewal zoneMove innerMove zoneEarlier innerLater refl refl (computed .zone-earlier) (computed .inner-later) zoneFirstRenewed refl (computed .zone-first),
         renewal innerMove zoneMove innerEarlier zoneLater refl refl (computed .inner-earlier) (computed .zone-later) innerFirstRenewed refl (computed .inner-first),
       );
+      renewedKeys = (refl, refl);
       alike =
           either-order limits (replicate 80 7) (replicate 80 0) (counted 1 0 0 true) started register called handles refl (computed .told)
-          zoneMove innerMove (computed .apart) zone-first inner-first;
+          zoneMove innerMove (computed .independently) zone-first inner-first;
       ranges = computed .ranges;
     }

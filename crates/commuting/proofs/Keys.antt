@@ -18,7 +18,7 @@ use Rattle.model.proofs.Explained.{explains}
 use Rattle.commuting.proofs.Slots.{SameSlots, same-live}
 
 module _ (t : Tree) (hs : ℕ → ℕ) (W : WF t) (d e : Doc) (S : Sim d t hs) (R : Sim e t hs) where
-  -- a handle that means no birth resolves in neither
+  -- a handle that means no birth resolves in the other document neither
   stale : (h : ℕ) → means t hs h ≡ none → resolves e h ≡ false
   stale =
       by-handle e t hs R (λ h. means t hs h ≡ none → resolves e h ≡ false)

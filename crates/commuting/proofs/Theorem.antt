@@ -20,7 +20,7 @@ use Rattle.tree.proofs.Theorem.{Stands, stands-after}
 use Rattle.commuting.specs.Moves.{Move, independent}
 use Rattle.commuting.specs.EitherOrder.{InOrder, Renewal, documentEnd, plainEnd, EndAlike, EitherOrder}
 use Rattle.commuting.proofs.Moved.{moved-told}
-use Rattle.commuting.proofs.Commute.{Meets, moves-commute}
+use Rattle.commuting.proofs.Commute.{Touched, moves-commute}
 use Rattle.commuting.proofs.Independent.{nodes-differ, parents-differ}
 use Rattle.commuting.proofs.Accepting.{Goes, meant}
 use Rattle.commuting.proofs.Slots.{SameSlots, same-trans, same-sym, same-resolves}
@@ -66,8 +66,8 @@ module _ (hs : ℕ → ℕ) {d : Document} {mem : List ℕ} {t : Tree} (S : Stan
     order-slots = same-trans (second-move .slots) (first-move .slots)
 
     -- the parents of the births are the parents of the handles
-    parents-meant : (u : ℕ) → Meets (t .parent (first-move .goes .child)) (first-move .goes .parent) u
-        → Meets (parentAt (decode d mem) (m .node)) (m .under) (hs u)
+    parents-meant : (u : ℕ) → Touched (t .parent (first-move .goes .child)) (first-move .goes .parent) u
+        → Touched (parentAt (decode d mem) (m .node)) (m .under) (hs u)
     parents-meant u (inl e) =
         let z = meant (decode d mem) t hs (S .sim) (S .wf) (m .node) (first-move .goes .child) (first-move .goes .isChild) in
         inl (ap (parentAt (decode d mem)) (sym (z .1)) ∙ S .sim .parent (first-move .goes .child) (z .0) ∙ ap (mapOption hs) e)
@@ -89,7 +89,7 @@ module _ (hs : ℕ → ℕ) {d : Document} {mem : List ℕ} {t : Tree} (S : Stan
     differ : G .child ≢ H .child
     differ e = nodes-differ (decode d mem) m n I (sym (node-meant m n x) ∙ ap hs e ∙ node-meant n m y)
 
-    apart : (u : ℕ) → Meets (t .parent (G .child)) (G .parent) u → Meets (t .parent (H .child)) (H .parent) u → ⊥
+    apart : (u : ℕ) → Touched (t .parent (G .child)) (G .parent) u → Touched (t .parent (H .child)) (H .parent) u → ⊥
     apart u e f = parents-differ (decode d mem) m n I (hs u) (parents-meant m n x u e) (parents-meant n m y u f)
 
     trees : plainEnd hs t x ≡ plainEnd hs t y

@@ -5,7 +5,7 @@ use mathlib.Core.Bool.{true, false}
 use mathlib.Core.List.{List, [], _∷_}
 use Prim.Native.Nat.{ℕ}
 use Rattle.model.specs.Doc.{Doc, rootHandle, resolves}
-use Rattle.model.specs.Calls.{document-order, compact, order-key, isRefusal, done}
+use Rattle.model.specs.Calls.{Call, document-order, compact, order-key, isRefusal, done}
 use Rattle.model.specs.Tree.{Tree, seed}
 use Rattle.model.specs.Claim.{Explains}
 use Rattle.memory.specs.declared.layout.Document.{Document}
@@ -24,11 +24,15 @@ pub record InOrder (d : Document) (mem : List ℕ) (m n : Move) : Type 0 where
   pub moves : (earlier .call ≡ callOf m) × (later .call ≡ callOf n)
   pub accepted : (isRefusal (earlier .answer) ≡ false) × (isRefusal (later .answer) ≡ false)
 
--- the order renewed after an event, by either call that renews it
+-- the calls after which the order is current
+abbrev pub Renews : Call → Type 0
+Renews c = (c ≡ document-order) ⊎ (c ≡ compact)
+
+-- such a call after an event, accepted
 pub record Renewal (e : Event) : Type 0 where
   pub event : Event
   pub promised : Promised (e .document) (e .memory) event
-  pub renews : (event .call ≡ document-order) ⊎ (event .call ≡ compact)
+  pub renews : Renews (event .call)
   pub accepted : isRefusal (event .answer) ≡ false
 
 module _ {d : Document} {mem : List ℕ} {m n : Move} where
@@ -52,7 +56,8 @@ pub record EndAlike (hs : ℕ → ℕ) (t : Tree) {d : Document} {mem : List ℕ
   pub words : (r : Renewal (x .later)) (s : Renewal (y .later)) → r .event .call ≡ document-order → s .event .call ≡ document-order
       → r .event .answer ≡ s .event .answer
 
--- "If both are accepted in each order, .. We want this for any document the calls can reach."
+-- "If both are accepted in each order, .. We want this for any document the calls can reach." For every list of calls there are handles hs that are told
+-- (`PlainTree`).
 abbrev pub EitherOrder : Type 0
 EitherOrder =
     (l : given.Limits) (mem mem′ : List ℕ) (d : Document) → Starts l mem done d mem′ → (es : List Event) → Called d mem′ es

@@ -9,7 +9,7 @@ use lib.ListN.{getD, replicate}
 use Rattle.blocks.specs.Arena.{Block, block}
 use Rattle.model.specs.Kinds.{children}
 use Rattle.model.specs.Doc.{handleWord, rootHandle, noKey, rangeIn}
-use Rattle.model.specs.Calls.{Call, append-element, Answered, made, done}
+use Rattle.model.specs.Calls.{Call, append-element, Answered, made, done, keys}
 use Rattle.model.specs.Tree.{seed}
 use Rattle.memory.specs.declared.layout.Document.{Document}
 use Rattle.memory.specs.declared.layout.Limits as given
@@ -52,6 +52,7 @@ threeNodes root zone = nodeWords 0 0 root ++ nodeWords 1 1 zone ++ nodeWords 1 2
 abbrev pub stale : List ℕ
 stale = 0 ∷ noKey ∷ noKey ∷ []
 
+-- a call in these buffers: what it answered, and the record and memory that it left
 abbrev pub event : Call → Answered → Document → List ℕ → Event
 event c a d mem = record { call = c; scratch = replicate 28 7; answer = a; document = d; memory = mem; scratchAfter = replicate 28 0 }
 
@@ -100,15 +101,16 @@ innerEarlier = event (callOf innerMove) done (counted 3 12 1 false) (laid (three
 abbrev pub zoneLater : Event
 zoneLater = event (callOf zoneMove) done (counted 3 16 1 false) (laid (threeNodes (block 12 1) (block 8 1)) stale (fours 1 2 2 1) (fours 0 0 4 4))
 
--- The premises are met, the two orders end alike, and the ranges of the Root's children differ.
+-- The premises are met, the two orders end alike with the keys 0, 1 and 2, and the ranges of the Root's children differ.
 pub record Example : Type 0 where
   pub started : Starts limits (replicate 80 7) done (counted 1 0 0 true) (replicate 80 0)
   pub called : Called (counted 1 0 0 true) (replicate 80 0) register
   pub told : Tells handles register seed
-  pub apart : independent (decode (innerMade .document) (innerMade .memory)) zoneMove innerMove ≡ true
+  pub areIndependent : independent (decode (innerMade .document) (innerMade .memory)) zoneMove innerMove ≡ true
   pub zoneFirst : InOrder (innerMade .document) (innerMade .memory) zoneMove innerMove
   pub innerFirst : InOrder (innerMade .document) (innerMade .memory) innerMove zoneMove
   pub later : (zoneFirst .later ≡ innerLater) × (innerFirst .later ≡ zoneLater)
   pub renewals : Renewal (zoneFirst .later) × Renewal (innerFirst .later)
+  pub renewedKeys : (renewals .0 .event .answer ≡ keys (0 ∷ 1 ∷ 2 ∷ [])) × (renewals .1 .event .answer ≡ keys (0 ∷ 1 ∷ 2 ∷ []))
   pub alike : EndAlike handles (treeEnd handles register seed) zoneFirst innerFirst
   pub ranges : (rangeIn (documentEnd zoneFirst) children 0 ≡ block 8 1) × (rangeIn (documentEnd innerFirst) children 0 ≡ block 12 1)
