@@ -2,11 +2,10 @@
 //! an editing call must answer Damaged exactly where the independent check finds a broken rule, and a refused call must leave every word.
 
 use crate::answers::Answer;
-use crate::calls::{Call, Line};
+use crate::calls::Call;
 use crate::driver::BAD_BUFFERS;
-use crate::generate::generate;
+use crate::generate;
 use crate::limits::Limits;
-use crate::parse::parse;
 use crate::port::Port;
 use crate::random::Random;
 use crate::tree::NodeId;
@@ -55,12 +54,10 @@ pub fn damage(seed: u64, states: u64) -> Result<Tally, String> {
 
 /// A document after the calls of a generated list, of which some are refused as Full.
 fn valid_document(seed: u64, profile: &str, random: &mut Random) -> Result<Port, String> {
-    let list = generate(seed, 20 + random.below(80), profile).ok_or("no such profile")?;
+    let calls = generate::calls(seed, 20 + random.below(80), profile).ok_or("no such profile")?;
     let mut port = Port::fresh(&LIMITS).map_err(|why| why.to_string())?;
-    for line in list.lines().filter_map(|line| parse(line.as_bytes())) {
-        if let Line::Call(call) = line {
-            port.call(&call);
-        }
+    for call in &calls {
+        port.call(call);
     }
     match port.laid_out().broken_rules() {
         Some(broken) if broken.is_empty() => Ok(port),

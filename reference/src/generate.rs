@@ -7,6 +7,8 @@ use crate::choose;
 use crate::driver::Reference;
 use crate::limits::{Limits, OWN};
 use crate::noise;
+#[cfg(feature = "port")]
+use crate::parse::parse;
 use crate::profiles::{Act, PROFILES, Profile, Size, named};
 use crate::random::Random;
 use crate::texts::{self, Texts};
@@ -30,6 +32,14 @@ pub fn generate(seed: u64, count: usize, profile: &str) -> Option<String> {
     }
     generator.write(&Line::Dump);
     Some(generator.out)
+}
+
+/// The calls of such a list, for documents of other limits: its other lines are left out.
+#[cfg(feature = "port")]
+pub(crate) fn calls(seed: u64, count: usize, profile: &str) -> Option<Vec<Call>> {
+    let list = generate(seed, count, profile)?;
+    let lines = list.lines().filter_map(|line| parse(line.as_bytes()));
+    Some(lines.filter_map(|line| if let Line::Call(call) = line { Some(call) } else { None }).collect())
 }
 
 pub(crate) struct Generator {

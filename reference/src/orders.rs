@@ -1,13 +1,12 @@
-//! Two moves in either order: on documents that generated lists leave, two moves of different nodes, the parents that one leaves and enters being none of the
+//! Two moves in either order (document 02, n): on documents that generated lists leave, two moves of different nodes, the parents that one leaves and enters being none of the
 //! other's, must end alike where both are accepted in each order, by the port and by the Rust.
 
 use crate::answers::Answer;
-use crate::calls::{Call, Line};
+use crate::calls::Call;
 use crate::choose;
 use crate::driver::Reference;
-use crate::generate::generate;
+use crate::generate;
 use crate::limits::Limits;
-use crate::parse::parse;
 use crate::port::Port;
 use crate::random::Random;
 use crate::state::{ArenaState, State};
@@ -32,7 +31,7 @@ pub struct Pairs {
     pub ranges_differ: u64,
     /// With a node or a parent in common.
     pub others: u64,
-    /// Those among them that ended differently: what the words of the request are there for.
+    /// Those among them that ended differently: without document 02's condition the claim is false.
     pub others_differ: u64,
 }
 
@@ -103,13 +102,11 @@ struct Sides {
 
 impl Sides {
     fn after(seed: u64, profile: &str, random: &mut Random) -> Result<Sides, String> {
-        let list = generate(seed, 20 + random.below(200), profile).ok_or("no such profile")?;
+        let calls = generate::calls(seed, 20 + random.below(200), profile).ok_or("no such profile")?;
         let port = Port::fresh(&LIMITS).map_err(|why| why.to_string())?;
         let mut sides = Sides { rust: Reference::fresh(LIMITS), port };
-        for line in list.lines().filter_map(|line| parse(line.as_bytes())) {
-            if let Line::Call(call) = line {
-                sides.call(&call)?;
-            }
+        for call in &calls {
+            sides.call(call)?;
         }
         Ok(sides)
     }
