@@ -5,5 +5,5 @@ pub mod name;
 pub mod node;
 pub mod nodes;
 pub mod order;
-mod shown;
+pub mod shown;
 pub mod text;

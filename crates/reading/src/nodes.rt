@@ -46,7 +46,7 @@ fn write_nodes(d: Document, mem: &[u64], out: &mut [u64]) -> usize
     count
 }
 
-fn nodes_ok(d: Document, mem: usize, out: usize) -> bool
+pub fn nodes_ok(d: Document, mem: usize, out: usize) -> bool
     ensures { λ r. ⌜ r ≡ (memoryOk d mem && leb (d .limits .nodes) out) ⌝ }
 {
     if memory::layout::memory_ok(d, mem) {

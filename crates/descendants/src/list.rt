@@ -1,0 +1,63 @@
+// The whole walk in one call: the handles of the nodes below a zone, into a lent list.
+ghost use mathlib.Core.Path.{_≡_};
+ghost use mathlib.Core.Bool.{true};
+ghost use Prim.Native.Nat.{_≤_};
+ghost use lib.ListN.{length};
+ghost use Rattle.words.specs.Parts.{put};
+ghost use Rattle.slots.specs.Handles.{wordOf};
+ghost use Rattle.memory.specs.Layout.{memoryOk};
+ghost use Rattle.memory.specs.Decode.{decode};
+ghost use Rattle.descendants.specs.Walking.{walked};
+ghost use Rattle.descendants.specs.Contract.{ListRead};
+use crate::position::Hints;
+use crate::position::Position;
+use crate::position::Walked;
+use crate::step::step;
+use memory::layout::Document;
+use model::Refusal;
+use reading::answers::NodesAnswer;
+use slots::NodeId;
+
+fn write_below(d: Document, mem: &[u64], zone: u64, out: &mut [u64]) -> usize
+    requires { ⌜ (memoryOk d (length (now mem)) ≡ true) × (d .limits .nodes ≤ length (now out)) ⌝ }
+    ensures { λ r. ⌜ r ≡ length (walked (decode d (now (mem .entry))) zone) ⌝ }
+    ensures { λ _. ⌜ now (out .exit) ≡ put 0 (walked (decode d (now (mem .entry))) zone) (now (out .entry)) ⌝ }
+{
+    let l = d.limits;
+    let nodes = l.nodes;
+    let hints = Hints {
+        short: 0,
+        middling: 0,
+        long: 0,
+        longest: 0,
+    };
+    let mut at = Position {
+        zone,
+        node: zone,
+        hints,
+        left: nodes,
+    };
+    let mut count = 0;
+    while count < nodes {
+        match step(d, mem, at) {
+            Walked::End => return count,
+            Walked::At(next) => {
+                out[count] = next.node;
+                count += 1;
+                at = next;
+            }
+        }
+    }
+    count
+}
+
+// Rules out a word written past the last handle.
+pub fn list_below(d: Document, mem: &[u64], id: NodeId, out: &mut [u64]) -> NodesAnswer
+    ensures { λ r. ⌜ ListRead d (now (mem .entry)) (wordOf id) (now (out .entry)) (now (out .exit)) r ⌝ }
+{
+    if reading::nodes::nodes_ok(d, mem.len(), out.len()) {
+        NodesAnswer::Count(write_below(d, mem, slots::handle::word_of(id), out))
+    } else {
+        NodesAnswer::Refused(Refusal::BadBuffers)
+    }
+}

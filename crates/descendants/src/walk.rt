@@ -1,0 +1,69 @@
+// The calls: they test 4 only.
+ghost use mathlib.Core.Path.{_≡_};
+ghost use lib.ListN.{length};
+ghost use Rattle.descendants.specs.Contract.{told, startsOf, nextOf};
+ghost use Rattle.slots.specs.Handles.{wordOf};
+use crate::position::Hints;
+use crate::position::Position;
+use crate::position::Walked;
+use crate::step::step;
+use memory::layout::Document;
+use model::Refusal;
+use slots::NodeId;
+
+// A position to go on from.
+pub enum WalkAnswer {
+    From(Position),
+    Refused(Refusal),
+}
+
+// A position at the next node, or that there is none.
+pub enum NextAnswer {
+    At(Position),
+    End,
+    Refused(Refusal),
+}
+
+fn told(w: Walked) -> NextAnswer
+    ensures { λ r. ⌜ r ≡ told w ⌝ }
+{
+    match w {
+        Walked::At(p) => NextAnswer::At(p),
+        Walked::End => NextAnswer::End,
+    }
+}
+
+// A walk under a node, which is not listed itself.
+pub fn descendants_of(d: Document, mem: &[u64], id: NodeId) -> WalkAnswer
+    ensures { λ r. ⌜ r ≡ startsOf d (now (mem .entry)) (wordOf id) ⌝ }
+{
+    if memory::layout::memory_ok(d, mem.len()) {
+        let zone = slots::handle::word_of(id);
+        let l = d.limits;
+        let hints = Hints {
+            short: 0,
+            middling: 0,
+            long: 0,
+            longest: 0,
+        };
+        WalkAnswer::From(Position {
+            zone,
+            node: zone,
+            hints,
+            left: l.nodes,
+        })
+    } else {
+        WalkAnswer::Refused(Refusal::BadBuffers)
+    }
+}
+
+// The next node of a walk.
+pub fn next(d: Document, mem: &[u64], at: Position) -> NextAnswer
+    ensures { λ r. ⌜ r ≡ nextOf d (now (mem .entry)) at ⌝ }
+{
+    if memory::layout::memory_ok(d, mem.len()) {
+        told(step(d, mem, at))
+    } else {
+        NextAnswer::Refused(Refusal::BadBuffers)
+    }
+}
