@@ -23,8 +23,8 @@ use Rattle.descendants.specs.declared.position.Walked.the-variants.{At, 
 use Rattle.descendants.specs.declared.step.Sought.the-variants as seeks
 use Rattle.descendants.specs.declared.walk.NextAnswer.{NextAnswer}
 use Rattle.descendants.specs.declared.walk.NextAnswer.the-variants as nextAnswer
-use Rattle.descendants.specs.Walking.{hintFor, withHint, hintedIndex, namesParent, visitEntry, outcome, seekUnder, parentBelow, seek, resumed, following, next, start, listed, listFrom, more, lookedUnder, looked}
-use Rattle.descendants.specs.Contract.{told, nextOf, nodesOf, nextUntilEnd}
+use Rattle.descendants.specs.Walking.{hintFor, withHint, hintedIndex, namesParent, visitEntry, outcome, seekUnder, parentBelow, seek, resumed, following, successor, next, start, listed, listFrom, walked, more, lookedUnder, looked}
+use Rattle.descendants.specs.Contract.{startsOf, told, nextOf, nodesOf, nextUntilEnd, walkOf}
 use Rattle.descendants.specs.Claim.{StaleStart, Lent, Seen, seen, along, Limited, FromAnywhere, OneStep}
 
 -- what a step that goes on tells
@@ -154,21 +154,6 @@ only-resolving (m ∷ ms) p = go (nextOf (m .document) (m .memory) p) refl (λ q
 pub from-anywhere : FromAnywhere
 from-anywhere n ms p h = (at-most n ms p h, only-resolving ms p)
 
--- a stale start
-pub stale-start : StaleStart
-stale-start d h r = go (d .limits .nodes)
-  where
-    ended : next d (start d h) ≡ End
-    ended = ap (λ (b : Bool). cond b (cond (ltb 0 (length (shownList d children h))) (visitEntry d (start d h) h (shownList d children h) 0) (following (length (d .gens)) (length (d .gens)) d (start d h) h)) End) (both (ltb 0 (min (d .limits .nodes) (d .limits .nodes))) (resolves d h) r)
-      where
-        both : (a b : Bool) → b ≡ false → (a && b) ≡ false
-        both true b e = e
-        both false b e = refl
-
-    go : (n : ℕ) → listFrom n d (start d h) ≡ []
-    go zero = refl
-    go (suc n) = ap (listed (λ q. listFrom n d q)) ended
-
 -- ---- the calls, until the end
 
 module _ (d : Document) (mem : List ℕ) (ok : memoryOk d (length mem) ≡ true) where
@@ -192,6 +177,25 @@ module _ (d : Document) (mem : List ℕ) (ok : memoryOk d (length mem) ≡ true)
           → nodesOf (λ q. nextUntilEnd (suc n) d mem q) (told w) ≡ some (listed (λ q. listFrom n D q) w)
       go ih End e = refl
       go ih (At q) e = ap (mapOption (λ l. q .node ∷ l)) (ih q (omega (arith, h, next-tells D p q e .1, next-may D p q e)))
+
+  -- by its calls a walk lists what `list_below` writes
+  pub by-calls : (h : ℕ) → walkOf d mem h ≡ some (walked D h)
+  unfolding startsOf
+  by-calls h = rw ok (until-end (d .limits .nodes) (start D h) (omega arith))
+
+-- ---- a stale start
+
+from-stale : (d : Doc) (h : ℕ) → resolves d h ≡ false → (n : ℕ) → listFrom n d (start d h) ≡ []
+from-stale d h r zero = refl
+from-stale d h r (suc n) =
+    ap (λ (b : Bool). listed (λ q. listFrom n d q) (cond b (successor d (start d h)) End)) (both (ltb 0 (min (d .limits .nodes) (d .limits .nodes))) (resolves d h) r)
+  where
+    both : (a b : Bool) → b ≡ false → (a && b) ≡ false
+    both true b e = e
+    both false b e = refl
+
+pub stale-start : StaleStart
+stale-start d mem h ok r = let e = from-stale (decode d mem) h r (d .limits .nodes) in (by-calls d mem ok h ∙ ap some e, e)
 
 -- ---- one step
 

@@ -19,7 +19,7 @@ use Rattle.descendants.specs.declared.position.Position.{Position}
 use Rattle.descendants.specs.declared.position.Walked.{Walked}
 use Rattle.descendants.specs.declared.position.Walked.the-variants.{At, End}
 use Rattle.descendants.specs.Walking.{next, listed, listFrom, walked}
-use Rattle.descendants.specs.Contract.{ListRead}
+use Rattle.descendants.specs.Contract.{countBelow, writtenBelow}
 
 module _ (n : ℕ) (D : Doc) (all out₀ : List ℕ) where
   -- what is written, and what the steps from here on are still to list
@@ -66,12 +66,14 @@ module _ (n : ℕ) (D : Doc) (all out₀ : List ℕ) where
 -- ---- the call
 
 module _ (d : Document) (mem : List ℕ) (h : ℕ) (out : List ℕ) (t : Bool) (e : t ≡ nodesOk d mem out) where
-  pub list-refused : (after : List ℕ) → t ≡ false → after ≡ out → ListRead d mem h out after (Refused BadBuffers)
-  list-refused after f q = record { answer = sym (rw (← e, f)); buffer = q ∙ sym (rw (← e, f)) }
+  pub list-refused : t ≡ false → (Refused BadBuffers ≡ countBelow d mem h out) × (out ≡ writtenBelow d mem h out)
+  unfolding countBelow writtenBelow
+  list-refused f = (sym (rw (← e, f)), sym (rw (← e, f)))
 
-  pub list-written : (after : List ℕ) → t ≡ true → (z : ℕ) → z ≡ h → (n : ℕ) → (n ≡ length (walked (decode d mem) z)) × (after ≡ put 0 (walked (decode d mem) z) out) → ListRead d mem h out after (Count n)
-  list-written after f z q n w =
-      record {
-        answer = ap {B = NodesAnswer} Count (w .0 ∙ ap (λ (x : ℕ). length (walked (decode d mem) x)) q) ∙ sym (rw (← e, f));
-        buffer = w .1 ∙ ap (λ (x : ℕ). put 0 (walked (decode d mem) x) out) q ∙ sym (rw (← e, f));
-      }
+  pub list-written : t ≡ true → (z : ℕ) → z ≡ h → (n : ℕ) (after : List ℕ) → (n ≡ length (walked (decode d mem) z)) × (after ≡ put 0 (walked (decode d mem) z) out)
+      → (Count n ≡ countBelow d mem h out) × (after ≡ writtenBelow d mem h out)
+  unfolding countBelow writtenBelow
+  list-written f z q n after w = (
+    ap {B = NodesAnswer} Count (w .0 ∙ ap (λ (x : ℕ). length (walked (decode d mem) x)) q) ∙ sym (rw (← e, f)),
+    w .1 ∙ ap (λ (x : ℕ). put 0 (walked (decode d mem) x) out) q ∙ sym (rw (← e, f)),
+  )

@@ -7,27 +7,32 @@ use Prim.Native.Nat.{ℕ, suc, _≤_}
 use lib.Dec.{eqb}
 use lib.ListN.{length}
 use Rattle.words.specs.Lists.{countOf, keep, all}
+use Rattle.words.specs.Parts.{put}
 use Rattle.model.specs.Kinds.{children, whichOf, sameWhich}
 use Rattle.model.specs.Doc.{Doc, rootHandle, resolves}
 use Rattle.model.specs.Calls.{done}
 use Rattle.model.specs.Tree.{Tree, seed, inOrder}
 use Rattle.memory.specs.declared.layout.Document.{Document}
 use Rattle.memory.specs.declared.layout.Limits as given
+use Rattle.memory.specs.Layout.{memoryOk}
 use Rattle.memory.specs.Decode.{decode}
+use Rattle.reading.specs.declared.answers.NodesAnswer.the-variants.{Count}
 use Rattle.tree.specs.Contract.{Starts}
 use Rattle.tree.specs.Claim.{Event, Called, Tells, lastRecord, lastMemory, treeEnd}
 use Rattle.descendants.specs.declared.position.Position.{Position}
 use Rattle.descendants.specs.declared.walk.NextAnswer.{NextAnswer}
 use Rattle.descendants.specs.declared.walk.NextAnswer.the-variants as nextAnswer
 use Rattle.descendants.specs.Walking.{descendants, walked, looked}
-use Rattle.descendants.specs.Contract.{nextOf, walkOf}
+use Rattle.descendants.specs.Contract.{nextOf, countBelow, writtenBelow, walkOf}
 
 -- "With no edit between its steps, the list equals the plain tree's, each node once, for detached trees also": of every live node, whether it hangs under
 -- the Root or not
 pub record WalksUnder (hs : ℕ → ℕ) (d : Document) (mem : List ℕ) (t : Tree) (b : ℕ) : Type 0 where
-  -- what `descendants_of` and then `next` list, and what `list_below` writes
+  -- by `descendants_of` and then `next` until the end
   pub steps : walkOf d mem (hs b) ≡ some (map hs (descendants t b))
-  pub whole : walked (decode d mem) (hs b) ≡ map hs (descendants t b)
+  -- by `list_below`, into a list of N words or more
+  pub whole : (out : List ℕ) → d .limits .nodes ≤ length out
+      → (countBelow d mem (hs b) out ≡ Count (length (descendants t b))) × (writtenBelow d mem (hs b) out ≡ put 0 (map hs (descendants t b)) out)
   pub once : (h : ℕ) → countOf (eqb h) (map hs (descendants t b)) ≤ 1
   -- "in document order without attributes and namespaces": the plain tree's own order, with what is no child left out
   pub ordered : whichOf (t .kind b) ≡ children
@@ -44,7 +49,9 @@ WalkUnderZone =
 
 -- "A stale start yields an empty list."
 abbrev pub StaleStart : Type 0
-StaleStart = (d : Doc) (h : ℕ) → resolves d h ≡ false → walked d h ≡ []
+StaleStart =
+    (d : Document) (mem : List ℕ) (h : ℕ) → memoryOk d (length mem) ≡ true → resolves (decode d mem) h ≡ false
+    → (walkOf d mem h ≡ some []) × (walked (decode d mem) h ≡ [])
 
 -- what a step finds: an edit, or damage, may lie between any two steps
 pub record Lent : Type 0 where

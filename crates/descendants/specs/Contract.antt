@@ -37,9 +37,11 @@ nextOf d mem p = cond (memoryOk d (length mem)) (told (next (decode d mem) p)) (
 
 -- `list_below` is lent a list besides, as `nodes` is: shorter than the node limit is 4, and leaves it as it was; else the handles that the walk
 -- lists stand at its front, and the words past them are as they were
-pub record ListRead (d : Document) (mem : List ℕ) (h : ℕ) (out after : List ℕ) (r : NodesAnswer) : Type 0 where
-  pub answer : r ≡ cond (nodesOk d mem out) (nodesAnswer.Count (length (walked (decode d mem) h))) (nodesAnswer.Refused BadBuffers)
-  pub buffer : after ≡ cond (nodesOk d mem out) (put 0 (walked (decode d mem) h) out) out
+unfoldable pub countBelow : Document → List ℕ → ℕ → List ℕ → NodesAnswer
+countBelow d mem h out = cond (nodesOk d mem out) (nodesAnswer.Count (length (walked (decode d mem) h))) (nodesAnswer.Refused BadBuffers)
+
+unfoldable pub writtenBelow : Document → List ℕ → ℕ → List ℕ → List ℕ
+writtenBelow d mem h out = cond (nodesOk d mem out) (put 0 (walked (decode d mem) h) out) out
 
 -- ---- a walk by its calls: `next` on the position that the call before answered, until the end
 

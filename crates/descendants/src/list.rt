@@ -8,7 +8,7 @@ ghost use Rattle.slots.specs.Handles.{wordOf};
 ghost use Rattle.memory.specs.Layout.{memoryOk};
 ghost use Rattle.memory.specs.Decode.{decode};
 ghost use Rattle.descendants.specs.Walking.{walked};
-ghost use Rattle.descendants.specs.Contract.{ListRead};
+ghost use Rattle.descendants.specs.Contract.{countBelow, writtenBelow};
 use crate::position::Hints;
 use crate::position::Position;
 use crate::position::Walked;
@@ -53,7 +53,7 @@ fn write_below(d: Document, mem: &[u64], zone: u64, out: &mut [u64]) -> usize
 
 // Rules out a word written past the last handle.
 pub fn list_below(d: Document, mem: &[u64], id: NodeId, out: &mut [u64]) -> NodesAnswer
-    ensures { λ r. ⌜ ListRead d (now (mem .entry)) (wordOf id) (now (out .entry)) (now (out .exit)) r ⌝ }
+    ensures { λ r. ⌜ (r ≡ countBelow d (now (mem .entry)) (wordOf id) (now (out .entry))) × (now (out .exit) ≡ writtenBelow d (now (mem .entry)) (wordOf id) (now (out .entry))) ⌝ }
 {
     if reading::nodes::nodes_ok(d, mem.len(), out.len()) {
         NodesAnswer::Count(write_below(d, mem, slots::handle::word_of(id), out))

@@ -1,6 +1,5 @@
 -- `descendants::list::list_below` meets its contract.
 -- Assumes nothing.
-use mathlib.Core.Path.{refl}
 use Rattle.slots.specs.Handles.{wordOf}
 use Rattle.reading.proofs.Live.{nodes-room}
 use Rattle.descendants.proofs.Listing.{list-refused, list-written}
@@ -25,12 +24,12 @@ same-length c = search needs
 returns : tie.Need-returns
 returns c =
     let a = c .before .before .before .before .before .before .before .before .before .args in
-    list-written (a .d) (a .mem .now) (wordOf (a .id)) (a .out .now) _ (c .before .before .before .before .before .before .nodes-ok .ensures) _ (c .before .before .before .before .before .if1 .taken) _ (c .before .before .before .before .word-of .ensures) _ (c .before .before .write-below .ensures)
+    list-written (a .d) (a .mem .now) (wordOf (a .id)) (a .out .now) _ (c .before .before .before .before .before .before .nodes-ok .ensures) (c .before .before .before .before .before .if1 .taken) _ (c .before .before .before .before .word-of .ensures) _ _ (c .before .before .write-below .ensures)
 
 returns-2 : tie.Need-returns-2
 returns-2 c =
     let a = c .before .before .before .before .args in
-    list-refused (a .d) (a .mem .now) (wordOf (a .id)) (a .out .now) _ (c .before .nodes-ok .ensures) _ (c .if1 .left) refl
+    list-refused (a .d) (a .mem .now) (wordOf (a .id)) (a .out .now) _ (c .before .nodes-ok .ensures) (c .if1 .left)
 
 pub list-below-spec : {M : Type 1} → statement M
 list-below-spec =
