@@ -11,6 +11,7 @@ use Rattle.memory.specs.Layout.{memoryOk}
 use Rattle.memory.specs.Decode.{decode}
 use Rattle.descendants.specs.declared.position.Position.{Position}
 use Rattle.descendants.specs.declared.position.Walked.{Walked}
+use Rattle.descendants.specs.declared.walk.WalkAnswer.{WalkAnswer}
 use Rattle.descendants.specs.declared.walk.WalkAnswer.the-variants as walkAnswer
 use Rattle.descendants.specs.declared.walk.NextAnswer.{NextAnswer}
 use Rattle.descendants.specs.declared.walk.NextAnswer.the-variants as nextAnswer
@@ -26,10 +27,10 @@ module _ (d : Document) (mem : List ℕ) (t : Bool) (e : t ≡ memoryOk d (lengt
   unfolding nextOf
   next-refused y p = sym (ap (λ (c : Bool). cond c (told (next (decode d mem) p)) (nextAnswer.Refused BadBuffers)) (sym e ∙ y))
 
-  pub start-shown : t ≡ true → (h z : ℕ) → z ≡ h → walkAnswer.From (start (decode d mem) z) ≡ startsOf d mem h
+  pub start-shown : t ≡ true → (h z : ℕ) → z ≡ h → (p : Position) → p ≡ start (d .limits .nodes) z → walkAnswer.From p ≡ startsOf d mem h
   unfolding startsOf
-  start-shown y h z f = ap (λ (x : ℕ). walkAnswer.From (start (decode d mem) x)) f ∙ sym (ap (λ (c : Bool). cond c (walkAnswer.From (start (decode d mem) h)) (walkAnswer.Refused BadBuffers)) (sym e ∙ y))
+  start-shown y h z f p g = ap {B = WalkAnswer} walkAnswer.From (g ∙ ap (start (d .limits .nodes)) f) ∙ sym (ap (λ (c : Bool). cond c (walkAnswer.From (start (d .limits .nodes) h)) (walkAnswer.Refused BadBuffers)) (sym e ∙ y))
 
   pub start-refused : t ≡ false → (h : ℕ) → walkAnswer.Refused BadBuffers ≡ startsOf d mem h
   unfolding startsOf
-  start-refused y h = sym (ap (λ (c : Bool). cond c (walkAnswer.From (start (decode d mem) h)) (walkAnswer.Refused BadBuffers)) (sym e ∙ y))
+  start-refused y h = sym (ap (λ (c : Bool). cond c (walkAnswer.From (start (d .limits .nodes) h)) (walkAnswer.Refused BadBuffers)) (sym e ∙ y))

@@ -181,14 +181,14 @@ module _ (d : Document) (mem : List ℕ) (ok : memoryOk d (length mem) ≡ true)
   -- by its calls a walk lists what `list_below` writes
   pub by-calls : (h : ℕ) → walkOf d mem h ≡ some (walked D h)
   unfolding startsOf
-  by-calls h = rw ok (until-end (d .limits .nodes) (start D h) (omega arith))
+  by-calls h = rw ok (until-end (d .limits .nodes) (start (d .limits .nodes) h) (omega arith))
 
 -- ---- a stale start
 
-from-stale : (d : Doc) (h : ℕ) → resolves d h ≡ false → (n : ℕ) → listFrom n d (start d h) ≡ []
+from-stale : (d : Doc) (h : ℕ) → resolves d h ≡ false → (n : ℕ) → listFrom n d (start (d .limits .nodes) h) ≡ []
 from-stale d h r zero = refl
 from-stale d h r (suc n) =
-    ap (λ (b : Bool). listed (λ q. listFrom n d q) (cond b (successor d (start d h)) End)) (both (ltb 0 (min (d .limits .nodes) (d .limits .nodes))) (resolves d h) r)
+    ap (λ (b : Bool). listed (λ q. listFrom n d q) (cond b (successor d (start (d .limits .nodes) h)) End)) (both (ltb 0 (min (d .limits .nodes) (d .limits .nodes))) (resolves d h) r)
   where
     both : (a b : Bool) → b ≡ false → (a && b) ≡ false
     both true b e = e

@@ -4,7 +4,7 @@ use mathlib.Core.Path.{_≡_, refl, sym, ap, _∙_}
 use mathlib.Core.Logic.{_≢_}
 use mathlib.Core.Bool.{Bool, true, false, cond, _&&_}
 use mathlib.Core.Option.{Option, none, some}
-use mathlib.Core.List.{List, [], _∷_}
+use mathlib.Core.List.{List}
 use Prim.Native.Nat.{ℕ, suc, _+_, _-_, _≤_, _<_, min}
 use native.Mathlib.Omega.{arith}
 use native.Mathlib.Numerals.{add-one}
@@ -33,7 +33,7 @@ use Rattle.descendants.specs.declared.position.Walked.{Walked}
 use Rattle.descendants.specs.declared.position.Walked.the-variants.{At, End}
 use Rattle.descendants.specs.declared.step.Sought.{Sought}
 use Rattle.descendants.specs.declared.step.Sought.the-variants as seeks
-use Rattle.descendants.specs.Walking.{hintFor, withHint, hintedIndex, parentShown, namesParent, visitEntry, outcome, seekUnder, parentBelow, seek, resumed, following, successor, next}
+use Rattle.descendants.specs.Walking.{hintFor, withHint, hintedIndex, parentShown, namesParent, visitEntry, outcome, seekUnder, seek, resumed, following, successor, next}
 
 -- ---- hints
 

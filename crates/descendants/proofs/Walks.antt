@@ -7,7 +7,7 @@ use mathlib.Core.Option.{some, Option·some-injective}
 use mathlib.Core.List.{List, [], _∷_, _++_, map, List·Memᴰ, List·Memᴰ·tail}
 use Prim.Native.Nat.{ℕ, zero, suc, _+_, _-_, _≤_, _<_, min}
 use native.Mathlib.Omega.{arith}
-use native.Mathlib.Decide.{decLt, ℕ-discrete}
+use native.Mathlib.Decide.{decLt}
 use borrow.Author.Tests.{eq-eqb, ne-eqb, lt-ltb, le-ltb, le-leb}
 use lib.Dec.{eqb, ltb}
 use lib.ListN.{length, getD, drop, length-map, length-append}
@@ -292,7 +292,7 @@ module _ {d : Doc} {t : Tree} {hs : ℕ → ℕ} (S : Sim d t hs) (W : WF t) (z 
       let h = taller b z (tall (nested W) kids kid z lz) in
       let k = slots-enough S (visit kids (suc b) z) (visit-distinct (nested W) kids kid (λ x lx. W .once children x lx) (suc b) z lz) (λ y m. visited (nested W) kids kid (suc b) z lz y m .0) in
       let e : walk kids (suc n) (z ∷ []) ≡ visit kids (suc b) z = walk-is-visit kids (suc b) (suc n) z h (omega (arith, k, S .within .slots)) in
-      listed-from n (start d (hs z)) refl z refl (Below.here refl) lz (omega arith)
+      listed-from n (start n (hs z)) refl z refl (Below.here refl) lz (omega arith)
       ∙ ap (λ (l : List ℕ). map hs (walk kids n (kids z ++ l))) (here-up z refl)
       ∙ ap (map hs) (ap (drop 1) e ∙ below-visit b z)
 

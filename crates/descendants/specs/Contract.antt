@@ -1,5 +1,4 @@
 -- What the calls of a walk promise, for every record, memory, position and handle: "Its calls test 4 only."
-use mathlib.Core.Path.{_≡_}
 use mathlib.Core.Bool.{cond}
 use mathlib.Core.Option.{Option, none, some}
 use mathlib.Core.List.{List, [], _∷_}
@@ -25,7 +24,7 @@ use Rattle.descendants.specs.Walking.{start, next, walked}
 
 -- `descendants_of`
 unfoldable pub startsOf : Document → List ℕ → ℕ → WalkAnswer
-startsOf d mem h = cond (memoryOk d (length mem)) (walkAnswer.From (start (decode d mem) h)) (walkAnswer.Refused BadBuffers)
+startsOf d mem h = cond (memoryOk d (length mem)) (walkAnswer.From (start (d .limits .nodes) h)) (walkAnswer.Refused BadBuffers)
 
 abbrev pub told : Walked → NextAnswer
 told (walks.At p) = nextAnswer.At p

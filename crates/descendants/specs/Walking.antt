@@ -101,8 +101,9 @@ next d p = cond (ltb 0 (min (p .left) (d .limits .nodes)) && resolves d (p .node
 
 -- ---- a walk
 
-abbrev pub start : Doc → ℕ → Position
-start d h = record { zone = h; node = h; hints = record { short = 0; middling = 0; long = 0; longest = 0 }; left = d .limits .nodes }
+-- below h, n nodes at most
+abbrev pub start : ℕ → ℕ → Position
+start n h = record { zone = h; node = h; hints = record { short = 0; middling = 0; long = 0; longest = 0 }; left = n }
 
 abbrev pub listed : (Position → List ℕ) → Walked → List ℕ
 listed more End = []
@@ -115,7 +116,7 @@ listFrom (suc n) d p = listed (λ q. listFrom n d q) (next d p)
 
 -- the whole walk: N steps are enough
 abbrev pub walked : Doc → ℕ → List ℕ
-walked d h = listFrom (d .limits .nodes) d (start d h)
+walked d h = listFrom (d .limits .nodes) d (start (d .limits .nodes) h)
 
 -- ---- how much one step looks at
 

@@ -9,9 +9,8 @@ ghost use Rattle.memory.specs.Layout.{memoryOk};
 ghost use Rattle.memory.specs.Decode.{decode};
 ghost use Rattle.descendants.specs.Walking.{walked};
 ghost use Rattle.descendants.specs.Contract.{countBelow, writtenBelow};
-use crate::position::Hints;
-use crate::position::Position;
 use crate::position::Walked;
+use crate::position::start;
 use crate::step::step;
 use memory::layout::Document;
 use model::Refusal;
@@ -25,18 +24,7 @@ fn write_below(d: Document, mem: &[u64], zone: u64, out: &mut [u64]) -> usize
 {
     let l = d.limits;
     let nodes = l.nodes;
-    let hints = Hints {
-        short: 0,
-        middling: 0,
-        long: 0,
-        longest: 0,
-    };
-    let mut at = Position {
-        zone,
-        node: zone,
-        hints,
-        left: nodes,
-    };
+    let mut at = start(nodes, zone);
     let mut count = 0;
     while count < nodes {
         match step(d, mem, at) {

@@ -1,8 +1,8 @@
 // A position of a walk, by value.
 ghost use mathlib.Core.Path.{_≡_};
-ghost use Rattle.descendants.specs.Walking.{hintFor, withHint};
+ghost use Rattle.descendants.specs.Walking.{hintFor, withHint, start};
 
-// Where the node listed last in a list of fewer than 16, 256 and 4,096 entries, and in a longer one, stood in it.
+// Where the node listed last in a list of fewer than 16, 256 and 4,096 entries, and in a longer one, stood in it. A hint is tried before it is believed.
 pub struct Hints {
     pub short: usize,
     pub middling: usize,
@@ -10,7 +10,7 @@ pub struct Hints {
     pub longest: usize,
 }
 
-// Where the walk began, the node listed last, the places, and how many nodes may be listed yet. A handle is a word.
+// The node where the walk began, the node listed last, the hints, and how many nodes may be listed yet. A handle is a word.
 pub struct Position {
     pub zone: u64,
     pub node: u64,
@@ -18,9 +18,28 @@ pub struct Position {
     pub left: usize,
 }
 
+// A step's outcome.
 pub enum Walked {
     At(Position),
     End,
+}
+
+// At the zone itself; so many nodes may be listed.
+pub fn start(nodes: usize, zone: u64) -> Position
+    ensures { λ r. ⌜ r ≡ start nodes zone ⌝ }
+{
+    let hints = Hints {
+        short: 0,
+        middling: 0,
+        long: 0,
+        longest: 0,
+    };
+    Position {
+        zone,
+        node: zone,
+        hints,
+        left: nodes,
+    }
 }
 
 pub fn hint_for(p: Hints, len: usize) -> usize

@@ -3,9 +3,9 @@ ghost use mathlib.Core.Path.{_≡_};
 ghost use lib.ListN.{length};
 ghost use Rattle.descendants.specs.Contract.{told, startsOf, nextOf};
 ghost use Rattle.slots.specs.Handles.{wordOf};
-use crate::position::Hints;
 use crate::position::Position;
 use crate::position::Walked;
+use crate::position::start;
 use crate::step::step;
 use memory::layout::Document;
 use model::Refusal;
@@ -38,20 +38,8 @@ pub fn descendants_of(d: Document, mem: &[u64], id: NodeId) -> WalkAnswer
     ensures { λ r. ⌜ r ≡ startsOf d (now (mem .entry)) (wordOf id) ⌝ }
 {
     if memory::layout::memory_ok(d, mem.len()) {
-        let zone = slots::handle::word_of(id);
         let l = d.limits;
-        let hints = Hints {
-            short: 0,
-            middling: 0,
-            long: 0,
-            longest: 0,
-        };
-        WalkAnswer::From(Position {
-            zone,
-            node: zone,
-            hints,
-            left: l.nodes,
-        })
+        WalkAnswer::From(start(l.nodes, slots::handle::word_of(id)))
     } else {
         WalkAnswer::Refused(Refusal::BadBuffers)
     }

@@ -6,6 +6,7 @@ use crate::walk::NextAnswer;
 use crate::walk::next;
 use memory::layout::Document;
 
+// `ids` is the lent buffer whole: the ids of a list and the words that say where the next list lies stand in it side by side.
 pub struct Walker<'a> {
     pub document: Document,
     pub ids: &'a [u64],
@@ -18,6 +19,7 @@ pub fn hold<'a>(document: Document, ids: &'a [u64], at: Position) -> Walker<'a>
     Walker { document, ids, at }
 }
 
+// The next node; `moved` goes on from it.
 pub fn next_of<'a>(w: Walker<'a>) -> NextAnswer
     ensures { λ r. ⌜ r ≡ nextOf (w .entry .document) (now (w .entry .ids)) (w .entry .at) ⌝ }
 {
@@ -35,8 +37,8 @@ pub fn moved<'a>(w: Walker<'a>, at: Position) -> Walker<'a>
     }
 }
 
-// From plain parameters.
-pub fn first(d: Document, ids: &[u64], at: Position) -> NextAnswer
+// The next node by a walker that is made for it, for callers that keep the three by themselves.
+pub fn next_held(d: Document, ids: &[u64], at: Position) -> NextAnswer
     ensures { λ r. ⌜ r ≡ nextOf d (now (ids .entry)) at ⌝ }
 {
     next_of(hold(d, ids, at))

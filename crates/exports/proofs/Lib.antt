@@ -5,3 +5,4 @@ mod Exporting
 mod Reading
 mod Beyond
 mod Showing
+mod Walks

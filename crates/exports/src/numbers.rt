@@ -30,7 +30,7 @@ fn give_one(answer: &mut [u64], word: u64) -> u64
     0
 }
 
-fn give_two(answer: &mut [u64], first: u64, second: u64) -> u64
+pub fn give_two(answer: &mut [u64], first: u64, second: u64) -> u64
     requires { ⌜ 2 ≤ length (now answer) ⌝ }
     ensures { λ r. ⌜ (r ≡ 0) × (now (answer .exit) ≡ put 0 (first ∷ second ∷ []) (now (answer .entry))) ⌝ }
 {

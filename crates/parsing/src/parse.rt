@@ -28,6 +28,7 @@ pub enum OfNode {
     Kind,
     Parent,
     Children,
+    Descendants,
     IsElement,
     AttributeNodes,
     NamespaceNodes,
@@ -87,19 +88,20 @@ fn one_word(line: &[u8]) -> Line {
 
 fn of_node(call: &[u8], id: NodeId) -> Line {
     match position(
-        b"kind parent children is_element attribute_nodes namespace_nodes order_key ranges remove detach",
+        b"kind parent children descendants is_element attribute_nodes namespace_nodes order_key ranges remove detach",
         call,
     ) {
         0 => Line::OfNode(OfNode::Kind, id),
         1 => Line::OfNode(OfNode::Parent, id),
         2 => Line::OfNode(OfNode::Children, id),
-        3 => Line::OfNode(OfNode::IsElement, id),
-        4 => Line::OfNode(OfNode::AttributeNodes, id),
-        5 => Line::OfNode(OfNode::NamespaceNodes, id),
-        6 => Line::OfNode(OfNode::OrderKey, id),
-        7 => Line::OfNode(OfNode::Ranges, id),
-        8 => Line::Remove(id),
-        9 => Line::Detach(id),
+        3 => Line::OfNode(OfNode::Descendants, id),
+        4 => Line::OfNode(OfNode::IsElement, id),
+        5 => Line::OfNode(OfNode::AttributeNodes, id),
+        6 => Line::OfNode(OfNode::NamespaceNodes, id),
+        7 => Line::OfNode(OfNode::OrderKey, id),
+        8 => Line::OfNode(OfNode::Ranges, id),
+        9 => Line::Remove(id),
+        10 => Line::Detach(id),
         _ => Line::NoCall,
     }
 }

@@ -81,12 +81,18 @@ fn list_words(out: &mut [u8], at: usize, words: &[u64]) -> usize {
     put(out, last, b"\n")
 }
 
-// The handles are written to scratch, whose words no call relies on.
-pub fn nodes(d: Document, mem: &[u64], scratch: &mut [u64], out: &mut [u8], at: usize) -> usize {
-    match reading::nodes::nodes(d, mem, scratch) {
-        NodesAnswer::Count(n) => list_words(out, at, words_between(&scratch[..], 0, n)),
+// The handles that a call wrote to the front of a list.
+pub fn handles(list: &[u64], answer: NodesAnswer, out: &mut [u8], at: usize) -> usize {
+    match answer {
+        NodesAnswer::Count(n) => list_words(out, at, words_between(list, 0, n)),
         NodesAnswer::Refused(why) => refused(out, at, why),
     }
+}
+
+// The handles are written to scratch, whose words no call relies on.
+pub fn nodes(d: Document, mem: &[u64], scratch: &mut [u64], out: &mut [u8], at: usize) -> usize {
+    let answer = reading::nodes::nodes(d, mem, scratch);
+    handles(&scratch[..], answer, out, at)
 }
 
 // The part of a slice with this start and length; the empty part where it lies outside.

@@ -39,10 +39,24 @@ fn shown_alone(
     }
 }
 
+// The handles are written to scratch, as `show::nodes` writes them.
+fn shown_below(
+    d: Document,
+    mem: &[u64],
+    scratch: &mut [u64],
+    id: NodeId,
+    out: &mut [u8],
+    at: usize,
+) -> usize {
+    let answer = descendants::list::list_below(d, mem, id, scratch);
+    show::handles(&scratch[..], answer, out, at)
+}
+
 // Of the lists of a node.
 fn shown_list(
     d: Document,
     mem: &[u64; MEMORY],
+    scratch: &mut [u64; SCRATCH],
     call: OfNode,
     id: NodeId,
     out: &mut [u8; OUT],
@@ -50,6 +64,7 @@ fn shown_list(
 ) -> usize {
     match call {
         OfNode::Children => show::children(d, mem, id, out, at),
+        OfNode::Descendants => shown_below(d, mem, scratch, id, out, at),
         OfNode::AttributeNodes => show::attribute_nodes(d, mem, id, out, at),
         OfNode::NamespaceNodes => show::namespace_nodes(d, mem, id, out, at),
         _ => show::ranges(d, mem, id, out, at),
@@ -59,6 +74,7 @@ fn shown_list(
 fn shown_node(
     d: Document,
     mem: &[u64; MEMORY],
+    scratch: &mut [u64; SCRATCH],
     call: OfNode,
     id: NodeId,
     out: &mut [u8; OUT],
@@ -69,7 +85,7 @@ fn shown_node(
         OfNode::Parent => show::parent(d, mem, id, out, at),
         OfNode::IsElement => show::is_element(d, mem, id, out, at),
         OfNode::OrderKey => show::order_key(d, mem, id, out, at),
-        _ => shown_list(d, mem, call, id, out, at),
+        _ => shown_list(d, mem, scratch, call, id, out, at),
     }
 }
 
@@ -85,7 +101,7 @@ fn shown(
 ) -> usize {
     match line {
         Line::Alone(call) => shown_alone(d, mem, scratch, call, out, at),
-        Line::OfNode(call, id) => shown_node(d, mem, call, id, out, at),
+        Line::OfNode(call, id) => shown_node(d, mem, scratch, call, id, out, at),
         Line::Name(name) => show::name(d, mem, name, out, at),
         _ => no_call(out, at, number),
     }

@@ -1,12 +1,12 @@
 -- `descendants::list::write_below` meets its contract. The invariant: what is written, and what the steps from here on list, are the whole walk.
 -- Assumes nothing.
-use mathlib.Core.Path.{_≡_, refl}
+use mathlib.Core.Path.{_≡_, refl, sym, ap}
 use Prim.Native.Nat.{_-_, _≤_}
 use native.Mathlib.Omega.{arith}
 use lib.ListN.{length}
 use borrow.Author.Needs.{needs}
 use Rattle.memory.specs.Decode.{decode}
-use Rattle.descendants.specs.Walking.{walked}
+use Rattle.descendants.specs.Walking.{listFrom, walked}
 use Rattle.descendants.proofs.Listing.{Listing, listing-start, listing-full, listing-ends, listing-turn}
 use Rattle.descendants.proofs.list.write_below.Statement.{statement}
 use Rattle.descendants.proofs.list.write_below.Tie as tie
@@ -18,10 +18,13 @@ Inv-loop d mem zone out₀ nodes at₀ count₀ out at count =
 abbrev μ-loop : tie.MeasureT-loop
 μ-loop d mem zone out₀ nodes at₀ count₀ out at count = nodes - count
 
+start-requires : tie.Need-start-requires Inv-loop μ-loop
+start-requires c κs = search needs
+
 loop-holds : tie.Need-loop-holds Inv-loop μ-loop
 loop-holds c =
-    let a = c .before .before .before .args in
-    (omega arith, refl, listing-start (a .d .limits .nodes) (decode (a .d) (a .mem .now)) (walked (decode (a .d) (a .mem .now)) (a .zone)) (a .out .now) _ refl)
+    let a = c .before .before .before .before .args in
+    (omega arith, refl, listing-start (a .d .limits .nodes) (decode (a .d) (a .mem .now)) (walked (decode (a .d) (a .mem .now)) (a .zone)) (a .out .now) _ (ap (listFrom (a .d .limits .nodes) (decode (a .d) (a .mem .now))) (sym (c .start .ensures))))
 
 step-requires : tie.Need-step-requires Inv-loop μ-loop
 step-requires c κs = search needs
@@ -34,7 +37,7 @@ same-length c = search needs
 
 returns : tie.Need-returns Inv-loop μ-loop
 returns c =
-    let a = c .before .before .before .before .before .before .before .before .args in
+    let a = c .before .before .before .before .before .before .before .before .before .args in
     let w = c .before .before .before .before .loop in
     listing-ends (a .d .limits .nodes) (decode (a .d) (a .mem .now)) (walked (decode (a .d) (a .mem .now)) (a .zone)) (a .out .now) (w .inv .2) (omega arith) _ (c .before .before .step .ensures) (c .enum-told .given .1)
 
@@ -55,7 +58,7 @@ loop-less c = omega arith
 
 loop-again : tie.Need-loop-again Inv-loop μ-loop
 loop-again c =
-    let s = c .before .before .before .before .before .before .before .before .before in
+    let s = c .before .before .before .before .before .before .before .before .before .before in
     let a = s .args in
     let w = c .before .before .before .before .before .loop in
     (search needs, search needs, listing-turn (a .d .limits .nodes) (decode (a .d) (a .mem .now)) (walked (decode (a .d) (a .mem .now)) (a .zone)) (a .out .now) (w .inv .2) (omega arith) _ (c .before .before .before .step .ensures) _ (c .before .next .given .1) (s .pre .1))
@@ -65,7 +68,7 @@ same-length-2 c = search needs
 
 returns-2 : tie.Need-returns-2 Inv-loop μ-loop
 returns-2 c =
-    let a = c .before .before .before .before .before .args in
+    let a = c .before .before .before .before .before .before .args in
     let w = c .before .loop in
     listing-full (a .d .limits .nodes) (decode (a .d) (a .mem .now)) (walked (decode (a .d) (a .mem .now)) (a .zone)) (a .out .now) (w .inv .2) (omega arith)
 
@@ -75,6 +78,7 @@ write-below-spec =
     (tie.spec
     Inv-loop
     μ-loop
+    start-requires
     loop-holds
     step-requires
     enum-told

@@ -1,4 +1,4 @@
--- `descendants::walker::hold` meets its contract: a walk of its MIR, by hand. A `Walker` is made of the record, the slice and the cursor that are passed, in the result's local.
+-- `descendants::walker::hold` meets its contract: a walk of its MIR, by hand. A `Walker` is made of the record, the slice and the position that are passed, in the result's local.
 -- A `&[u64]` is Copy, so what it owns is had twice: once for ids at exit, and once inside the result. What the two plain structs own is made anew, for both.
 -- Assumes nothing.
 use mathlib.Core.Path.{refl}

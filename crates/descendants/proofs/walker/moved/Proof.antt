@@ -1,5 +1,5 @@
--- `descendants::walker::moved` meets its contract: a walk of its MIR, by hand. A struct is made anew of the slice that the one passed holds, and another number.
--- The struct is Copy: what it owns is had twice, one copy is kept whole for the exit, and the other, with the facts of the number in the place of at's, is what the result owns.
+-- `descendants::walker::moved` meets its contract: a walk of its MIR, by hand. A struct is made anew of the slice that the one passed holds, and another position.
+-- The struct is Copy: what it owns is had twice, one copy is kept whole for the exit, and the other, with the other position in the place of at's, is what the result owns.
 -- Assumes nothing.
 use mathlib.Core.Path.{refl}
 use mathlib.Core.List.{[], _∷_}
@@ -70,7 +70,7 @@ module _ {M : Type 1} (𝓤 : URA M) (H : Heap 𝓤) (A : Atoms 𝓤) (W : Given
       qed W ((‵ (flft κ q) ⊛ ‵ ftrue) ∷ ‵ (owns (B (κ, tt) ∷ K.the-row ∷ []) (d, (c, tt)) at) ∷ []) ∵
       suffices ! _ (ends-at 𝓤 H A moved.ended stayed (moved.clauses 𝓤 H A mem run) W (((κ, tt), (q, tt), tt, (d, (c, tt)), at), tt) (T′.lowered d′) d′ (tt, (tt, tt)) (tt, (tt, tt))) $ says ! refl $
       frame ! $ fsplit ! $ use1 W (‵ Own ⊛ ‵ Own) (LL.copy (T.the-type (namedLft 1 0 tt (κ, tt))) (T′.the-copy (namedLft 1 0 tt (κ, tt))) 𝓤 H A W .twice d (mach ∷ [])) $ split ! $ move ! (0 ∷ 2 ∷ []) $ fjoin ! $ frame ! $
-      -- [what the struct owns]: the number's facts take the place of at's
+      -- [what the struct owns]: the other position takes the place of at's
       owned ! K.the-row (Is K.the-row) (LL.makes K.the-type K′.the-plain 𝓤 H A) c _ gc $ move ! (1 ∷ 0 ∷ []) $ by ! (own-put 𝓤 H A W (T.the-type (namedLft 1 0 tt (κ, tt))) (T′.the-laws (namedLft 1 0 tt (κ, tt))) 2 (d .document, (d .ids, (d .at, tt))) c mach)
 
   module _ (C : Calls 𝓤 H) (Λ : Loops 𝓤 H) where

@@ -1,5 +1,5 @@
--- `descendants::walker::next_of` meets its contract: a walk of its MIR, by hand. The struct is taken apart, and `step` is called on the record, the slice and the cursor. All that the proof knows of `step` is that it meets its contract.
--- The struct is Copy: what it owns is had twice, one copy is kept whole for the exit, and what the fields of the other own, in their order, is what `step` asks, beside the lifetime's token, which comes back.
+-- `descendants::walker::next_of` meets its contract: a walk of its MIR, by hand. The struct is taken apart, and `next` is called on the record, the slice and the position. All that the proof knows of `next` is that it meets its contract.
+-- The struct is Copy: what it owns is had twice, one copy is kept whole for the exit, and what the fields of the other own, in their order, is what `next` asks, beside the lifetime's token, which comes back.
 -- Assumes nothing.
 use mathlib.Core.Path.{_≡_, refl}
 use mathlib.Core.List.{[], _∷_}

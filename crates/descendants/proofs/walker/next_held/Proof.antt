@@ -1,4 +1,4 @@
--- `descendants::walker::first` meets its contract: a walk of its MIR, by hand. The `Walker` that `hold` returns is held in a local and passed to `next_of`. All that the proof knows of the two is that each meets its contract.
+-- `descendants::walker::next_held` meets its contract: a walk of its MIR, by hand. The `Walker` that `hold` returns is held in a local and passed to `next_of`. All that the proof knows of the two is that each meets its contract.
 -- In a local of a body MIR erases the lifetime of the struct's type, so the value is shown to have the type at `erased`.
 -- Assumes nothing.
 use mathlib.Core.Path.{_≡_, refl, ap, _∙_}
@@ -58,16 +58,16 @@ use Rattle.descendants.proofs.walker.next_of as next
 use Rattle.descendants.proofs.walker.next_of.Symbol as next-def
 use Rattle.descendants.proofs.walker.next_of.Symbol.{name as #descendants·walker·next}
 use Rattle.descendants.proofs.walker.next_of.Met as next-thm
-use Rattle.descendants.proofs.walker.first.Key.{name as #descendants·walker·first}
-use Rattle.descendants.proofs.walker.first as first
-use Rattle.descendants.proofs.walker.first.Statement as stated
-use Rattle.descendants.proofs.walker.first.Code as code
+use Rattle.descendants.proofs.walker.next_held.Key.{name as #descendants·walker·held}
+use Rattle.descendants.proofs.walker.next_held as held
+use Rattle.descendants.proofs.walker.next_held.Statement as stated
+use Rattle.descendants.proofs.walker.next_held.Code as code
 
 -- the struct's type, over the signature's lifetimes
 abbrev B : Lfts 1 → RattleType
 B κs = T.the-row (namedLft 1 0 tt κs)
 
-abbrev stayed : Stays (first.ended .signature .params) (first.ended .kept)
+abbrev stayed : Stays (held.ended .signature .params) (held.ended .kept)
 stayed = (stay-none (λ _. E.the-row) yes, (stay-none-slice (0 ∷ []) tt (plain (λ _. u64)) yes, (stay-none (λ _. K.the-row) yes, tt)))
 
 module _ {M : Type 1} (𝓤 : URA M) (H : Heap 𝓤) (A : Atoms 𝓤) (mem : Memory → SProp 𝓤) (run : Routine → Fun 𝓤) where
@@ -97,11 +97,11 @@ module _ {M : Type 1} (𝓤 : URA M) (H : Heap 𝓤) (A : Atoms 𝓤) (W : Given
   abbrev a : Document × (RefT (List ℕ) × (Position × Unit {0}))
   a = (x, (s, (c, tt)))
 
-  abbrev at : Vals first.signature (κ, tt)
+  abbrev at : Vals held.signature (κ, tt)
   at = (E′.lowered x ∷ [], (v ∷ [], (K′.lowered c ∷ [], tt)))
 
   abbrev Post : Val → SProp 𝓤
-  Post = walkOf 𝓤 H A first.ended stayed (first.clauses 𝓤 H A mem run) .post (((κ, tt), (q, tt), tt, a, at), tt)
+  Post = walkOf 𝓤 H A held.ended stayed (held.clauses 𝓤 H A mem run) .post (((κ, tt), (q, tt), tt, a, at), tt)
 
   abbrev Own : Fml
   Own = ShrSlice (named 0) κ u64 .own s (v ∷ [])
@@ -113,7 +113,7 @@ module _ {M : Type 1} (𝓤 : URA M) (H : Heap 𝓤) (A : Atoms 𝓤) (W : Given
   abbrev to-hold : Hold 𝓤 H A mem run .Ghost
   to-hold = (((κ, tt), (q, tt), tt, a, at), tt)
 
-  goes-hold : ent 𝓤 (onEntry 𝓤 H A first.signature (κ, tt) (q, tt) a at) (sep 𝓤 (Hold 𝓤 H A mem run .pre to-hold) (sem 𝓤 H A Own))
+  goes-hold : ent 𝓤 (onEntry 𝓤 H A held.signature (κ, tt) (q, tt) a at) (sep 𝓤 (Hold 𝓤 H A mem run .pre to-hold) (sem 𝓤 H A Own))
   goes-hold =
       qed W ((‵ (flft κ q) ⊛ ‵ ftrue) ∷ ‵ Owns ∷ []) ∵
       move ! (1 ∷ []) $ fsplit ! $ drop ! $ fsplit ! $ move ! (1 ∷ []) $ drop ! $ use1 W (‵ Own ⊛ ‵ Own) (shr-slice-copy 𝓤 H A W (named 0) κ u64 .twice s (v ∷ [])) $ split ! $
@@ -139,19 +139,19 @@ module _ {M : Type 1} (𝓤 : URA M) (H : Heap 𝓤) (A : Atoms 𝓤) (W : Given
   exits : (t : NextAnswer) (u : Val) → t ≡ found → ent 𝓤 (⋆ 𝓤 H A (‵ (S.the-row .own t (u ∷ [])) ∷ (‵ (flft κ q) ⊛ ‵ ftrue) ∷ ‵ Own ∷ [])) (Post u)
   exits t u e =
       qed W (‵ (S.the-row .own t (u ∷ [])) ∷ (‵ (flft κ q) ⊛ ‵ ftrue) ∷ ‵ Own ∷ []) ∵
-      suffices ! _ (ends-at 𝓤 H A first.ended stayed (first.clauses 𝓤 H A mem run) W (((κ, tt), (q, tt), tt, a, at), tt) u t (tt, (tt, (tt, tt))) (tt, (tt, (tt, tt)))) $ says ! e $
+      suffices ! _ (ends-at 𝓤 H A held.ended stayed (held.clauses 𝓤 H A mem run) W (((κ, tt), (q, tt), tt, a, at), tt) u t (tt, (tt, (tt, tt))) (tt, (tt, (tt, tt)))) $ says ! e $
       move ! (1 ∷ []) $ frame ! $
       -- [the result; what ids owns]: what the parameters own at exit
       nothing ! $ owned ! K.the-row (Is K.the-row) (LL.makes K.the-type K′.the-plain 𝓤 H A) c _ gc $ fjoin ! $ move ! (2 ∷ 0 ∷ []) $ fjoin ! $
       owned ! E.the-row (Is E.the-row) (LL.makes E.the-type E′.the-plain 𝓤 H A) x _ gx $ fjoin ! $ frame ! $ done !
 
   module _ (C : Calls 𝓤 H) (Λ : Loops 𝓤 H) (fm : FmC 𝓤 H (W .laws) C) (known-hold : Triple 𝓤 (C #descendants·walker·hold) (Hold 𝓤 H A mem run)) (known-next : Triple 𝓤 (C #descendants·walker·next) (Next 𝓤 H A mem run)) where
-    walk : Is (ShrSlice (named 0) κ u64) s (v ∷ []) → ent 𝓤 (onEntry 𝓤 H A first.signature (κ, tt) (q, tt) a at) (WpFn 𝓤 H C Λ code.function (E′.lowered x ∷ v ∷ K′.lowered c ∷ []) Post)
+    walk : Is (ShrSlice (named 0) κ u64) s (v ∷ []) → ent 𝓤 (onEntry 𝓤 H A held.signature (κ, tt) (q, tt) a at) (WpFn 𝓤 H C Λ code.function (E′.lowered x ∷ v ∷ K′.lowered c ∷ []) Post)
     walk p =
         let tx = LL.lawful E.the-type E′.the-laws 𝓤 H A W .typed x _ gx .0 in
         let ts = shr-slice-lawful 𝓤 H A W (named 0) κ u64 .typed s (v ∷ []) p .0 in
         let tc = LL.lawful K.the-type K′.the-laws 𝓤 H A W .typed c _ gc .0 in
-        qed W (raw (onEntry 𝓤 H A first.signature (κ, tt) (q, tt) a at) ∷ []) ∵ enter ! C Λ code.function (E′.lowered x ∷ v ∷ K′.lowered c ∷ []) _ $
+        qed W (raw (onEntry 𝓤 H A held.signature (κ, tt) (q, tt) a at) ∷ []) ∵ enter ! C Λ code.function (E′.lowered x ∷ v ∷ K′.lowered c ∷ []) _ $
         alloc1 ! (λ l₀. alloc1 ! (λ l₁. alloc1 ! (λ l₂. alloc1 ! (λ l₃. alloc1 ! (λ l₄. alloc0 ! $ params1 ! $ pass1 ! (init ! 6 refl tx) $ pass1 ! (init ! 4 refl ts) $ pass1 ! (init ! 2 refl tc) $ pass0 ! $
         move ! (10 ∷ []) $ use1 W (raw (Hold 𝓤 H A mem run .pre to-hold) ⊛ ‵ Own) goes-hold $ split ! $
         -- [what `hold` asks; what ids owns; room for _4; …; _3; …; _2; …; _1; …; room for _0; …]
@@ -173,26 +173,26 @@ module _ {M : Type 1} (𝓤 : URA M) (H : Heap 𝓤) (A : Atoms 𝓤) (W : Given
         by ! (exits t u′ (e′ ∙ ap (λ (w : Walker). nextOf (w .document) (now (w .ids)) (w .at)) e)))))))))))))))
 
 module _ {M : Type 1} (𝓤 : URA M) (H : Heap 𝓤) (A : Atoms 𝓤) (W : Given 𝓤 H A) (mem : Memory → SProp 𝓤) (run : Routine → Fun 𝓤) where
-  first-walks : (C : Calls 𝓤 H) (Λ : Loops 𝓤 H) → FmC 𝓤 H (W .laws) C → Triple 𝓤 (C #descendants·walker·hold) (Hold 𝓤 H A mem run) → Triple 𝓤 (C #descendants·walker·next) (Next 𝓤 H A mem run)
-      → Walks 𝓤 H A first.ended stayed (WpFn 𝓤 H C Λ code.function) (first.clauses 𝓤 H A mem run)
-  first-walks C Λ fm known-hold known-next = walked 𝓤 H A first.ended stayed (first.clauses 𝓤 H A mem run) (WpFn 𝓤 H C Λ code.function)
+  held-walks : (C : Calls 𝓤 H) (Λ : Loops 𝓤 H) → FmC 𝓤 H (W .laws) C → Triple 𝓤 (C #descendants·walker·hold) (Hold 𝓤 H A mem run) → Triple 𝓤 (C #descendants·walker·next) (Next 𝓤 H A mem run)
+      → Walks 𝓤 H A held.ended stayed (WpFn 𝓤 H C Λ code.function) (held.clauses 𝓤 H A mem run)
+  held-walks C Λ fm known-hold known-next = walked 𝓤 H A held.ended stayed (held.clauses 𝓤 H A mem run) (WpFn 𝓤 H C Λ code.function)
       (λ κs. (LL.vals E.the-type E′.the-laws, (slice-vals, (LL.vals K.the-type K′.the-laws, tt))))
       (λ κs. (LL.tells E.the-type E′.the-laws, (shr-slice-tells (named 0) (κs .0) u64, (LL.tells K.the-type K′.the-laws, tt))))
       (λ κs qs bounds a g are. via 𝓤 _ (fst∗ 𝓤 _ (emp 𝓤)) (walk 𝓤 H A W mem run (κs .0) (qs .0) (a .0) (a .1 .0) (a .1 .1 .0) (are .0) (are .1 .1 .0) C Λ fm known-hold known-next (are .1 .0)))
 
-first-meets : {M : Type 1} (𝓤 : URA M) (H : Heap 𝓤) (A : Atoms 𝓤) (W : Given 𝓤 H A) (mem : Memory → SProp 𝓤) (run : Routine → Fun 𝓤) (𝓣 : Tables 𝓤 H)
+held-meets : {M : Type 1} (𝓤 : URA M) (H : Heap 𝓤) (A : Atoms 𝓤) (W : Given 𝓤 H A) (mem : Memory → SProp 𝓤) (run : Routine → Fun 𝓤) (𝓣 : Tables 𝓤 H)
     → Triple 𝓤 (𝓣 .C #descendants·walker·hold) (Hold 𝓤 H A mem run) → Triple 𝓤 (𝓣 .C #descendants·walker·next) (Next 𝓤 H A mem run)
-    → Meets 𝓤 H A first.signature (WpFn 𝓤 H (𝓣 .C) (𝓣 .Λ) code.function) (first.spec 𝓤 H A mem run)
-first-meets 𝓤 H A W mem run 𝓣 known-hold known-next = walk-meets 𝓤 H A first.ended stayed W
+    → Meets 𝓤 H A held.signature (WpFn 𝓤 H (𝓣 .C) (𝓣 .Λ) code.function) (held.spec 𝓤 H A mem run)
+held-meets 𝓤 H A W mem run 𝓣 known-hold known-next = walk-meets 𝓤 H A held.ended stayed W
     (goes-none 𝓤 H A W 1 (λ _. E.the-row) yes (λ κs x f. refl), (goes-none-slice 𝓤 H A W 1 (0 ∷ []) tt (plain (λ _. u64)) yes, (goes-none 𝓤 H A W 1 (λ _. K.the-row) yes (λ κs x f. refl), tt)))
-    (first.clauses 𝓤 H A mem run) (WpFn 𝓤 H (𝓣 .C) (𝓣 .Λ) code.function) (WpFn-mono 𝓤 H (W .laws) 𝓣 code.function)
-    (first-walks 𝓤 H A W mem run (𝓣 .C) (𝓣 .Λ) (fmOf 𝓤 H (W .laws) 𝓣) known-hold known-next)
+    (held.clauses 𝓤 H A mem run) (WpFn 𝓤 H (𝓣 .C) (𝓣 .Λ) code.function) (WpFn-mono 𝓤 H (W .laws) 𝓣 code.function)
+    (held-walks 𝓤 H A W mem run (𝓣 .C) (𝓣 .Λ) (fmOf 𝓤 H (W .laws) 𝓣) known-hold known-next)
 
-pub first-spec : {M : Type 1} → stated.statement M
+pub next-held-spec : {M : Type 1} → stated.statement M
 unfolding code.routine tablesOf
-first-spec 𝓤 H 𝓜 𝓖 𝓡 =
-    entered 𝓤 H (tripleOf 𝓤 H (𝓖 .A) first.signature (first.spec 𝓤 H (𝓖 .A) (𝓜 .mem) (𝓡 .run)))
-    (tables 𝓤 H 𝓜 𝓡 code.env .C) (tables 𝓤 H 𝓜 𝓡 code.env .Λ) #descendants·walker·first code.function (code.unfolded 𝓤 H 𝓜 𝓡)
-    (first-meets 𝓤 H (𝓖 .A) (givenOf 𝓤 H 𝓜 𝓖) (𝓜 .mem) (𝓡 .run) (tablesOf 𝓤 H 𝓜 (tables 𝓤 H 𝓜 𝓡 code.env))
+next-held-spec 𝓤 H 𝓜 𝓖 𝓡 =
+    entered 𝓤 H (tripleOf 𝓤 H (𝓖 .A) held.signature (held.spec 𝓤 H (𝓖 .A) (𝓜 .mem) (𝓡 .run)))
+    (tables 𝓤 H 𝓜 𝓡 code.env .C) (tables 𝓤 H 𝓜 𝓡 code.env .Λ) #descendants·walker·held code.function (code.unfolded 𝓤 H 𝓜 𝓡)
+    (held-meets 𝓤 H (𝓖 .A) (givenOf 𝓤 H 𝓜 𝓖) (𝓜 .mem) (𝓡 .run) (tablesOf 𝓤 H 𝓜 (tables 𝓤 H 𝓜 𝓡 code.env))
     (cited 𝓤 H (Hold 𝓤 H (𝓖 .A) (𝓜 .mem) (𝓡 .run)) 𝓜 𝓡 code.env #descendants·walker·hold hold-def.routine code.calls-descendants·walker·hold (hold-thm.met 𝓤 H 𝓜 𝓖 𝓡))
     (cited 𝓤 H (Next 𝓤 H (𝓖 .A) (𝓜 .mem) (𝓡 .run)) 𝓜 𝓡 code.env #descendants·walker·next next-def.routine code.calls-descendants·walker·next-of (next-thm.met 𝓤 H 𝓜 𝓖 𝓡)))
