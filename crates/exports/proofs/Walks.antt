@@ -73,7 +73,7 @@ module _ (words mem at out : List ℕ) where
   none-given f =
       record {
         short = λ z. (refl, refl, refl);
-        status = λ t. absurd (false≢true (sym f ∙ t));
+        returned = λ t. absurd (false≢true (sym f ∙ t));
         position = λ t. absurd (false≢true (sym f ∙ t));
         answer = λ t. absurd (false≢true (sym f ∙ t));
       }
@@ -95,7 +95,7 @@ module _ (words mem at out : List ℕ) where
       let y : nextLent words at out ≡ true = rw (l .lent, le-leb 2 (length out) room) in
       record {
         short = λ z. absurd (true≢false (sym y ∙ z));
-        status = λ z. g .0 ∙ ap (λ (x : NextAnswer). statusOf (nextWords x)) q;
+        returned = λ z. g .0 ∙ ap (λ (x : NextAnswer). statusOf (nextWords x)) q;
         position = λ z. g .1 ∙ ap (λ (x : NextAnswer). givenTo at (nextPosition x)) q;
         answer = λ z. g .2 ∙ ap (λ (x : NextAnswer). givenTo out (nextWords x)) q;
       }
@@ -106,7 +106,7 @@ module _ (h : ℕ) (words mem list out : List ℕ) where
       let f = not-lent words (length out) 1 l e s in
       record {
         short = λ z. (refl, refl, refl);
-        status = λ t. absurd (false≢true (sym f ∙ t));
+        returned = λ t. absurd (false≢true (sym f ∙ t));
         listed = λ t. absurd (false≢true (sym f ∙ t));
         answer = λ t. absurd (false≢true (sym f ∙ t));
       }
@@ -120,7 +120,7 @@ module _ (h : ℕ) (words mem list out : List ℕ) where
       = e .0 ∙ ap (λ (x : Document). countBelow x mem (wordOf id) list) (l .is) ∙ ap (λ (x : ℕ). countBelow (documentOf words) mem x list) w in
       record {
         short = λ z. absurd (true≢false (sym (l .lent) ∙ z));
-        status = λ z. g .0 ∙ ap (λ (x : NodesAnswer). statusOf (countWords x)) q;
+        returned = λ z. g .0 ∙ ap (λ (x : NodesAnswer). statusOf (countWords x)) q;
         listed = λ z. e .1 ∙ ap (λ (x : Document). writtenBelow x mem (wordOf id) list) (l .is) ∙ ap (λ (x : ℕ). writtenBelow (documentOf words) mem x list) w;
         answer = λ z. g .1 ∙ ap (λ (x : NodesAnswer). givenTo out (countWords x)) q;
       }

@@ -23,13 +23,13 @@ nextLent words at out = isLent words (length at) 7 && leb 2 (length out)
 
 pub record ExportedNext (words mem at out : List ℕ) (status : ℕ) (at′ out′ : List ℕ) : Type 0 where
   pub short : nextLent words at out ≡ false → (status ≡ 4) × (at′ ≡ at) × (out′ ≡ out)
-  pub status : nextLent words at out ≡ true → status ≡ statusOf (nextWords (nextOf (documentOf words) mem (positionOf at)))
+  pub returned : nextLent words at out ≡ true → status ≡ statusOf (nextWords (nextOf (documentOf words) mem (positionOf at)))
   pub position : nextLent words at out ≡ true → at′ ≡ givenTo at (nextPosition (nextOf (documentOf words) mem (positionOf at)))
   pub answer : nextLent words at out ≡ true → out′ ≡ givenTo out (nextWords (nextOf (documentOf words) mem (positionOf at)))
 
 -- `oxml_list_below` was lent a list for the handles, and a slice for their count.
 pub record ExportedBelow (h : ℕ) (words mem list out : List ℕ) (status : ℕ) (list′ out′ : List ℕ) : Type 0 where
   pub short : isLent words (length out) 1 ≡ false → (status ≡ 4) × (list′ ≡ list) × (out′ ≡ out)
-  pub status : isLent words (length out) 1 ≡ true → status ≡ statusOf (countWords (countBelow (documentOf words) mem h list))
+  pub returned : isLent words (length out) 1 ≡ true → status ≡ statusOf (countWords (countBelow (documentOf words) mem h list))
   pub listed : isLent words (length out) 1 ≡ true → list′ ≡ writtenBelow (documentOf words) mem h list
   pub answer : isLent words (length out) 1 ≡ true → out′ ≡ givenTo out (countWords (countBelow (documentOf words) mem h list))
