@@ -1,4 +1,5 @@
 // Document 01's bench examples through the public calls, each compared with what it must be. Every one writes a line.
+mod below; // below.rt: a walk below a node
 mod calls; // calls.rt: the calls, one behind the other
 mod checks; // checks.rt: what is compared
 mod moves; // moves.rt: examples 3 and 8
@@ -23,4 +24,5 @@ fn main() {
     say(b"example 11", strings::declarations());
     say(b"example 12", strings::comments());
     say(b"the order renewed", orders::renewed());
+    say(b"a walk below a node", below::listed());
 }

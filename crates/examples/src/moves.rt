@@ -14,7 +14,7 @@ use crate::checks::has_children;
 use slots::NodeId;
 
 // The element e, (1, 0), with the children a, b and c: (2, 0), (3, 0) and (4, 0).
-fn with_children(mem: &mut [u64; MEMORY], scratch: &mut [u64; SCRATCH]) -> After {
+pub fn with_children(mem: &mut [u64; MEMORY], scratch: &mut [u64; SCRATCH]) -> After {
     let e = handle(1, 0);
     let fresh = start(mem);
     let top = element(fresh, mem, scratch, handle(0, 0), b"e");
