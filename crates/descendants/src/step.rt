@@ -56,12 +56,7 @@ fn parent_shown(d: Document, mem: &[u64], word: u64) -> Parent
     requires { ⌜ memoryOk d (length (now mem)) ≡ true ⌝ }
     ensures { λ r. ⌜ handleOf r ≡ parentShown (decode d (now (mem .entry))) word ⌝ }
 {
-    let id = slots::handle::id_of(word);
-    if memory::read::resolves(d, mem, id) {
-        let index = id.index;
-        return memory::fields::live_parent(d, mem, index as usize);
-    }
-    Parent::None
+    shown_parent(d, mem, slots::handle::id_of(word))
 }
 
 fn names_parent(d: Document, mem: &[u64], parent: u64, word: u64) -> bool

@@ -23,7 +23,7 @@ use Rattle.memory.specs.declared.layout.Document.{Document}
 use Rattle.memory.specs.Layout.{memoryOk}
 use Rattle.memory.specs.Decode.{kindOf, handleOf, rangeOf, slotsMade, resolvedIn, poolIn, namesIn, lengthsAdd, decodeWith, decode}
 use Rattle.memory.proofs.Columns.{resolved-found, resolved-none, kind-found, parent-found, range-found}
-use Rattle.reading.specs.Contract.{reads}
+use Rattle.reading.specs.Contract.{reads, parentShown}
 
 module _ (d : Document) (mem : List ℕ) (ok : Bool) (e : ok ≡ memoryOk d (length mem)) where
   -- test 4
@@ -87,9 +87,8 @@ module _ (d : Document) (mem : List ℕ) (h : NodeId) (hi : h .index < 429496729
   pub element-stale : t ≡ false → false ≡ showsElement (decode d mem) (wordOf h)
   element-stale f = sym (rw (sym e ∙ f))
 
-  pub parent-shown : t ≡ true → (a : Answered) (o : Option ℕ) → a ≡ node o → o ≡ parentIn (decode d mem) (h .index) → a ≡ step (parent-of (wordOf h)) (decode d mem) .answer
-  parent-shown q a o k p =
-      k ∙ ap node (p ∙ ap (parentIn (decode d mem)) (sym (handleIndex-wordOf h hi))) ∙ sym (rw (sym e ∙ q))
+  pub parent-shown : t ≡ true → (o : Option ℕ) → o ≡ parentIn (decode d mem) (h .index) → o ≡ parentShown (decode d mem) (wordOf h)
+  parent-shown q o p = p ∙ ap (parentIn (decode d mem)) (sym (handleIndex-wordOf h hi)) ∙ sym (rw (sym e ∙ q))
 
-  pub parent-stale : t ≡ false → node none ≡ step (parent-of (wordOf h)) (decode d mem) .answer
+  pub parent-stale : t ≡ false → none ≡ parentShown (decode d mem) (wordOf h)
   parent-stale f = sym (rw (sym e ∙ f))

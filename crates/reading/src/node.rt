@@ -9,6 +9,7 @@ use crate::answers::NodeAnswer;
 use crate::answers::TruthAnswer;
 use crate::shown::first_element;
 use crate::shown::shown_block;
+use crate::shown::shown_parent;
 use crate::shown::shows_element;
 use memory::layout::Arena;
 use memory::layout::Document;
@@ -41,12 +42,7 @@ pub fn parent(d: Document, mem: &[u64], id: NodeId) -> NodeAnswer
     ensures { λ r. ⌜ ofNode r ≡ reads (parent-of (wordOf id)) d (now (mem .entry)) ⌝ }
 {
     if memory::layout::memory_ok(d, mem.len()) {
-        if memory::read::resolves(d, mem, id) {
-            let index = id.index;
-            parent_found(memory::fields::live_parent(d, mem, index as usize))
-        } else {
-            NodeAnswer::Nothing
-        }
+        parent_found(shown_parent(d, mem, id))
     } else {
         NodeAnswer::Refused(Refusal::BadBuffers)
     }

@@ -1,4 +1,4 @@
-// What the calls share once test 4 has passed: the block and the element that are shown.
+// What the calls share once test 4 has passed: the block, the parent and the element that are shown.
 ghost use mathlib.Core.Path.{_≡_};
 ghost use mathlib.Core.Bool.{true, cond};
 ghost use Prim.Native.Nat.{_+_, _≤_};
@@ -11,12 +11,14 @@ ghost use Rattle.model.specs.Kinds.{children};
 ghost use Rattle.model.specs.Doc.{shownBlock, showsElement};
 ghost use Rattle.model.specs.Calls.{node};
 ghost use Rattle.memory.specs.Layout.{whichOf, entriesOf, memoryOk};
-ghost use Rattle.memory.specs.Decode.{blockOf, arenaIn, decode};
+ghost use Rattle.memory.specs.Decode.{blockOf, handleOf, arenaIn, decode};
 ghost use Rattle.reading.specs.Answers.{ofNode};
+ghost use Rattle.reading.specs.Contract.{parentShown};
 use crate::answers::NodeAnswer;
 use memory::layout::Arena;
 use memory::layout::Document;
 use slots::NodeId;
+use slots::Parent;
 use slots::Range;
 
 // A block, or an empty one where it lies outside an arena of this length.
@@ -42,6 +44,18 @@ pub fn shown_block(d: Document, mem: &[u64], id: NodeId, arena: Arena) -> Range
     } else {
         Range { start: 0, len: 0 }
     }
+}
+
+// The parent of a node that resolves.
+pub fn shown_parent(d: Document, mem: &[u64], id: NodeId) -> Parent
+    requires { ⌜ memoryOk d (length (now mem)) ≡ true ⌝ }
+    ensures { λ r. ⌜ handleOf r ≡ parentShown (decode d (now (mem .entry))) (wordOf id) ⌝ }
+{
+    if memory::read::resolves(d, mem, id) {
+        let index = id.index;
+        return memory::fields::live_parent(d, mem, index as usize);
+    }
+    Parent::None
 }
 
 // Whether a handle resolves to an element.
