@@ -84,6 +84,9 @@ enum {
 /* Arenas, for oxml_entries. */
 enum { OXML_CHILDREN = 0, OXML_ATTRIBUTES = 1, OXML_NAMESPACES = 2 };
 
+/* Words of a position in a walk, and where they stand in it; the four between are where the node listed last is looked for first. */
+enum { OXML_POSITION_ZONE = 0, OXML_POSITION_NODE = 1, OXML_POSITION_LEFT = 6, OXML_POSITION = 7 };
+
 /* ---- a document is started and edited ---- */
 
 /* The Root alone, in memory that may hold anything, under the limits in the first 8 words of the record. */
@@ -208,6 +211,26 @@ uint64_t oxml_name(
 /* The handles of all live nodes go to list, which has room for as many as the node limit (else OXML_BAD_BUFFERS), and their count to answer[0]. */
 uint64_t oxml_nodes(
     const uint64_t *document, size_t document_len, const uint64_t *memory, size_t memory_len, uint64_t *list, size_t list_len,
+    uint64_t *answer, size_t answer_len);
+
+/* ---- a walk lists the nodes below a zone in document order, without attributes and namespaces, the zone left out ----
+ * A position is OXML_POSITION words that the caller keeps: the zone, the node listed last, four hints, and how many nodes may be listed yet. Any words are a
+ * position. After an edit, from a made-up position or in damaged memory a walk lists only nodes that resolve, as many as the node limit at most. */
+
+/* position is before the first node below the zone; a stale zone has none. */
+uint64_t oxml_descendants_of(
+    const uint64_t *document, size_t document_len, const uint64_t *memory, size_t memory_len, uint64_t zone,
+    uint64_t *position, size_t position_len);
+
+/* answer is 1 and the handle of the next node, and position is there; or 0 and 0 at the end, and position is as it was. */
+uint64_t oxml_walk_next(
+    const uint64_t *document, size_t document_len, const uint64_t *memory, size_t memory_len, uint64_t *position, size_t position_len,
+    uint64_t *answer, size_t answer_len);
+
+/* The handles of all nodes below a zone go to list, which has room for as many as the node limit (else OXML_BAD_BUFFERS), and their count to answer[0];
+ * the words of list past them are as they were. */
+uint64_t oxml_list_below(
+    const uint64_t *document, size_t document_len, const uint64_t *memory, size_t memory_len, uint64_t zone, uint64_t *list, size_t list_len,
     uint64_t *answer, size_t answer_len);
 
 /* ---- words are copied out: how many there are is returned; they are written to the front of out where they fit, and else none is ---- */

@@ -258,6 +258,36 @@ unsafe extern "C" {
         answer: *mut u64,
         answer_len: usize,
     ) -> u64;
+    pub(crate) fn oxml_descendants_of(
+        record: *const u64,
+        record_len: usize,
+        memory: *const u64,
+        memory_len: usize,
+        zone: u64,
+        position: *mut u64,
+        position_len: usize,
+    ) -> u64;
+    pub(crate) fn oxml_walk_next(
+        record: *const u64,
+        record_len: usize,
+        memory: *const u64,
+        memory_len: usize,
+        position: *mut u64,
+        position_len: usize,
+        answer: *mut u64,
+        answer_len: usize,
+    ) -> u64;
+    pub(crate) fn oxml_list_below(
+        record: *const u64,
+        record_len: usize,
+        memory: *const u64,
+        memory_len: usize,
+        zone: u64,
+        out: *mut u64,
+        out_len: usize,
+        answer: *mut u64,
+        answer_len: usize,
+    ) -> u64;
     pub(crate) fn oxml_order_key(
         record: *const u64,
         record_len: usize,

@@ -5,7 +5,9 @@ mod document;
 mod ffi;
 mod reading;
 mod record;
+mod walk;
 
 pub use answers::{Arena, NodeData, NodeId, NodeKind, Range, Refusal, Text};
 pub use document::Document;
 pub use record::{Limits, Record};
+pub use walk::{Descendants, Position};

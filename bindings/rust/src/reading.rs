@@ -19,6 +19,7 @@ macro_rules! read {
         }
     }};
 }
+pub(crate) use read;
 
 /// A call that shows words: how many there are, and the words if they fit.
 macro_rules! shown {
@@ -119,10 +120,15 @@ impl Document<'_> {
 
     /// Every live node, in slot order.
     pub fn nodes(&self) -> Result<Vec<NodeId>, Refusal> {
+        self.listed(|out, answer| read!(self, oxml_nodes, answer, out.as_mut_ptr(), out.len()))
+    }
+
+    /// By a call that lists nodes in a slice that is lent to it, and answers their count.
+    pub(crate) fn listed(&self, list: impl FnOnce(&mut [u64], &mut [u64; 1]) -> u64) -> Result<Vec<NodeId>, Refusal> {
         let most = usize::try_from(self.record.0[0]).unwrap_or(usize::MAX).min(self.memory.len());
         let mut out = vec![0; most];
         let mut answer = [0];
-        Refusal::check(read!(self, oxml_nodes, answer, out.as_mut_ptr(), out.len()))?;
+        Refusal::check(list(&mut out, &mut answer))?;
         out.truncate(usize::try_from(answer[0]).expect("no more nodes than the limit"));
         Ok(out.into_iter().map(NodeId::from_word).collect())
     }
@@ -169,7 +175,7 @@ impl Document<'_> {
     }
 }
 
-fn node_of(answer: [u64; 2]) -> Option<NodeId> {
+pub(crate) fn node_of(answer: [u64; 2]) -> Option<NodeId> {
     (answer[0] != 0).then(|| NodeId::from_word(answer[1]))
 }
 

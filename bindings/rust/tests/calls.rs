@@ -1,6 +1,6 @@
 //! Every call through the static library, each with an answer that document 01 or the source gives.
 
-use oxml_lent::{Arena, Document, Limits, NodeData, NodeId, NodeKind, Range, Refusal};
+use oxml_lent::{Arena, Document, Limits, NodeData, NodeId, NodeKind, Position, Range, Refusal};
 
 const NONE: Option<&str> = None;
 
@@ -131,6 +131,100 @@ fn nodes_move_and_compact_keeps_what_is_shown() {
         assert_eq!(document.children(register), Ok(listed));
         assert_eq!(document.children(zones[0]), Ok(vec![zones[1]]));
     });
+}
+
+/// A register of two zones, each with a blend and its text; the first zone has an attribute and a namespace. All nodes below the Root, in document order.
+fn two_zones(document: &mut Document) -> [NodeId; 7] {
+    let root = document.root().unwrap();
+    let register = document.append_element(root, NONE, "register").unwrap();
+    // The second is made first, so that document order is not slot order.
+    let [second, first] = [(); 2].map(|()| document.append_element(register, NONE, "zone").unwrap());
+    document.insert_at(register, 0, first).unwrap();
+    document.set_attribute(first, NONE, "hardness", "12").unwrap();
+    document.declare_namespace(first, Some("w"), "urn:water").unwrap();
+    let [[a, b], [c, d]] = [first, second].map(|zone| {
+        let blend = document.append_element(zone, NONE, "blend").unwrap();
+        [blend, document.append_text(blend, "well").unwrap()]
+    });
+    [register, first, a, b, second, c, d]
+}
+
+/// What a walk lists, by both its forms.
+fn below(document: &Document, id: NodeId) -> Vec<NodeId> {
+    let listed = document.list_below(id).unwrap();
+    assert_eq!(document.descendants_of(id).unwrap().collect::<Vec<_>>(), listed);
+    listed
+}
+
+#[test]
+fn a_walk_lists_what_is_below_a_node_in_document_order() {
+    with_document(|mut document| {
+        let all = two_zones(&mut document);
+        let [register, first, blend, text, second, ..] = all;
+        assert_eq!(below(&document, document.root().unwrap()), all);
+        assert_eq!(below(&document, register), all[1..]);
+        assert_eq!(below(&document, first), [blend, text]);
+        let [hardness] = document.attribute_nodes(first).unwrap()[..] else { panic!("one attribute") };
+        let [water] = document.namespace_nodes(first).unwrap()[..] else { panic!("one namespace") };
+        for childless in [text, hardness, water] {
+            assert_eq!(below(&document, childless), []);
+        }
+        document.detach(second).unwrap();
+        assert_eq!(below(&document, second), all[5..]);
+        assert_eq!(below(&document, register), [first, blend, text]);
+        document.remove(first).unwrap();
+        for stale in [first, blend, handle(31, 0), handle(u32::MAX, u32::MAX)] {
+            assert_eq!(below(&document, stale), []);
+        }
+    });
+}
+
+#[test]
+fn a_walk_goes_on_after_an_edit() {
+    with_document(|mut document| {
+        let [register, first, blend, text, second, ..] = two_zones(&mut document);
+        let mut walk = document.descendants_of(register).unwrap();
+        assert_eq!(walk.next(), Some(first));
+        let at = walk.position();
+        let note = document.append_comment(first, "checked").unwrap();
+        document.insert_at(first, 0, note).unwrap();
+        let (listed, at) = document.walk_next(at).unwrap().unwrap();
+        assert_eq!(listed, note);
+        document.detach(blend).unwrap();
+        let (listed, at) = document.walk_next(at).unwrap().unwrap();
+        assert_eq!(listed, second);
+        assert_eq!(below(&document, blend), [text]);
+        document.remove(second).unwrap();
+        assert_eq!(document.walk_next(at), Ok(None));
+    });
+}
+
+#[test]
+fn any_seven_words_are_a_position() {
+    with_document(|mut document| {
+        let all = two_zones(&mut document);
+        let [register, _, _, text, second, ..] = all.map(|id| u64::from(id.index));
+        // A node that is not below the zone, hints that are wrong, and more left than there are nodes: the walk meets the zone, and ends behind it.
+        let made_up = Position([second, text, 7, u64::MAX, 1 << 40, 3, u64::MAX]);
+        let steps = std::iter::successors(Some((all[3], made_up)), |(_, at)| document.walk_next(*at).unwrap());
+        assert_eq!(steps.map(|(id, _)| id).collect::<Vec<_>>(), all[3..]);
+        for ended in [[register, register, 0, 0, 0, 0, 0], [0, 31, 0, 0, 0, 0, 9], [u64::MAX; 7]] {
+            assert_eq!(document.walk_next(Position(ended)), Ok(None));
+        }
+    });
+}
+
+#[test]
+fn a_walk_refuses_short_memory() {
+    let (mut memory, mut scratch) = lent();
+    let mut document = Document::empty(&LIMITS, &mut memory, &mut scratch).unwrap();
+    let [register, ..] = two_zones(&mut document);
+    let (record, at) = (document.record(), document.walk_from(register).unwrap());
+    memory.pop();
+    let document = Document::resume(record, &mut memory, &mut scratch);
+    assert_eq!(document.descendants_of(register).map(|_| ()), Err(Refusal::BadBuffers));
+    assert_eq!(document.list_below(register), Err(Refusal::BadBuffers));
+    assert_eq!(document.walk_next(at), Err(Refusal::BadBuffers));
 }
 
 #[test]
