@@ -35,6 +35,7 @@ pub(crate) enum Call {
     IsElement(NodeId),
     AttributeNodes(NodeId),
     NamespaceNodes(NodeId),
+    Descendants(NodeId),
     OrderKey(NodeId),
     Name(u64),
 }
@@ -80,6 +81,7 @@ impl Call {
             Call::IsElement(_) => "is_element",
             Call::AttributeNodes(_) => "attribute_nodes",
             Call::NamespaceNodes(_) => "namespace_nodes",
+            Call::Descendants(_) => "descendants",
             Call::OrderKey(_) => "order_key",
             Call::Name(_) => "name",
         }
@@ -111,6 +113,7 @@ impl Call {
             | Call::IsElement(_)
             | Call::AttributeNodes(_)
             | Call::NamespaceNodes(_)
+            | Call::Descendants(_)
             | Call::OrderKey(_)
             | Call::Name(_) => false,
         }
@@ -167,6 +170,7 @@ fn arguments(call: &Call) -> Vec<String> {
         | Call::IsElement(node)
         | Call::AttributeNodes(node)
         | Call::NamespaceNodes(node)
+        | Call::Descendants(node)
         | Call::OrderKey(node) => vec![handle(*node)],
         Call::Name(number) => vec![number.to_string()],
     }

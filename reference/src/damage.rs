@@ -243,6 +243,7 @@ impl Trial {
             Call::AttributeNodes(a),
             Call::NamespaceNodes(b),
             Call::OrderKey(c),
+            Call::Descendants(d),
             Call::Name(index),
         ]
     }

@@ -105,6 +105,7 @@ fn show(document: &Document, call: &Call) -> Answer {
         Call::IsElement(node) => Answer::Truth(document.is_element(*node)),
         Call::AttributeNodes(node) => Answer::List(document.attribute_nodes(*node).to_vec()),
         Call::NamespaceNodes(node) => Answer::List(document.namespace_nodes(*node).to_vec()),
+        Call::Descendants(node) => Answer::List(document.descendants_of(*node).collect()),
         Call::OrderKey(node) => order_key(document, *node),
         Call::Name(number) => name(document, *number),
         _ => unreachable!("every other call is an edit"),

@@ -5,7 +5,7 @@ use crate::parse::LONGEST;
 
 /// Each is one slip away from a call.
 #[rustfmt::skip]
-pub(crate) const SLIPS: [&str; 44] = [
+pub(crate) const SLIPS: [&str; 46] = [
     "append_element 0:0 -", "append_element 0:0 - x61 x", "append_element 0:0 - -", "append_element  0:0 - x61",
     "append_element 0:0 - x61 ", " append_element 0:0 - x61", "append_element\t0:0 - x61", "Append_element 0:0 - x61",
     "append_element 0:0 - x6", "append_element 0:0 - x6G", "append_element 0:0 - x6A", "append_element 0:0 - 61",
@@ -14,8 +14,8 @@ pub(crate) const SLIPS: [&str; 44] = [
     "append_element 4294967296:0 - x61", "append_element 0:4294967296 - x61", "append_text 0:0 -", "append_text 0:0",
     "append_pi 0:0 x61", "set_text 0:0 x74 x74", "set_attribute 0:0 - x61", "declare_namespace 0:0 x75",
     "remove", "remove 0:0 0:0", "remove 0:0 #", "insert_at 0:0 18446744073709551616 1:0", "insert_at 0:0 -1 1:0",
-    "insert_at 0:0 1:0", "insert_at 0:0 0x1 1:0", "compact 0:0", "document_order ", "name", "name 0:0", "dumps", "dump 1",
-    "fresh 1", "limits 1 1 1 1 1 1 1", "limits 1 1 1 1 1 1 1 1 1",
+    "insert_at 0:0 1:0", "insert_at 0:0 0x1 1:0", "compact 0:0", "document_order ", "descendants", "descendants_of 0:0",
+    "name", "name 0:0", "dumps", "dump 1", "fresh 1", "limits 1 1 1 1 1 1 1", "limits 1 1 1 1 1 1 1 1 1",
 ];
 
 /// What answers nothing.

@@ -62,6 +62,7 @@ fn reading(words: &[&str]) -> Option<Call> {
         ["is_element", node] => Call::IsElement(handle(node)?),
         ["attribute_nodes", node] => Call::AttributeNodes(handle(node)?),
         ["namespace_nodes", node] => Call::NamespaceNodes(handle(node)?),
+        ["descendants", node] => Call::Descendants(handle(node)?),
         ["order_key", node] => Call::OrderKey(handle(node)?),
         ["name", name] => Call::Name(number(name)?),
         _ => return None,

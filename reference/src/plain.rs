@@ -254,6 +254,7 @@ impl Plain {
             Call::Children(handle) => self.list(*handle, Arena::Children),
             Call::AttributeNodes(handle) => self.list(*handle, Arena::Attributes),
             Call::NamespaceNodes(handle) => self.list(*handle, Arena::Namespaces),
+            Call::Descendants(handle) => self.descendants(*handle),
             Call::IsElement(handle) => Said::Truth(matches!(self.kind(*handle), Some(PlainKind::Element(_)))),
             Call::OrderKey(handle) => {
                 let key = self.resolve(*handle).and_then(|birth| self.key(birth));
@@ -271,6 +272,22 @@ impl Plain {
     fn list(&self, handle: NodeId, arena: Arena) -> Said {
         let birth = self.resolve(handle);
         Said::List(birth.map_or_else(Vec::new, |b| self.nodes[b].lists[arena as usize].clone()))
+    }
+
+    fn descendants(&self, handle: NodeId) -> Said {
+        let mut list = Vec::new();
+        if let Some(birth) = self.resolve(handle) {
+            self.list_below(birth, &mut list);
+        }
+        Said::List(list)
+    }
+
+    /// Each child, then what is below it.
+    fn list_below(&self, birth: Birth, list: &mut Vec<Birth>) {
+        for child in &self.nodes[birth].lists[Arena::Children as usize] {
+            list.push(*child);
+            self.list_below(*child, list);
+        }
     }
 
     fn key(&self, birth: Birth) -> Option<u32> {

@@ -151,6 +151,7 @@ fn show(document: &Document, call: &Call) -> Result<Answer, Refusal> {
         Call::IsElement(id) => document.is_element(lent(*id)).map(Answer::Truth),
         Call::AttributeNodes(id) => document.attribute_nodes(lent(*id)).map(list),
         Call::NamespaceNodes(id) => document.namespace_nodes(lent(*id)).map(list),
+        Call::Descendants(id) => descendants(document, lent(*id)).map(list),
         Call::OrderKey(id) => {
             let key = |key: Option<u64>| key.map_or(Answer::Nothing, |key| Answer::Key(narrow(&[key])[0]));
             document.order_key(lent(*id)).map(key)
@@ -161,6 +162,13 @@ fn show(document: &Document, call: &Call) -> Result<Answer, Refusal> {
         }
         _ => unreachable!("every other call is an edit"),
     }
+}
+
+/// All at once, and step by step: both must list the same.
+fn descendants(document: &Document, id: oxml_lent::NodeId) -> Result<Vec<oxml_lent::NodeId>, Refusal> {
+    let (listed, walk) = (document.list_below(id), document.descendants_of(id));
+    assert_eq!(listed, walk.map(Iterator::collect), "list_below, and descendants_of step by step");
+    listed
 }
 
 fn shown_kind(kind: NodeKind) -> Answer {

@@ -21,6 +21,8 @@ pub(crate) enum Act {
     Compact,
     /// One of the reading calls.
     Read,
+    /// `descendants`, where much is moved or freed.
+    Descendants,
     Ranges,
     /// `order_key` of live nodes and of others.
     OrderKeys,
@@ -70,7 +72,7 @@ pub(crate) static PROFILES: [Profile; 12] = [
             (AppendElement, 14), (AppendText, 10), (AppendComment, 4), (AppendPi, 4), (SetText, 5),
             (SetAttribute, 8), (RemoveAttribute, 3), (DeclareNamespace, 5), (Remove, 6),
             (RemoveWidest, 1), (Detach, 3), (Reparent, 5), (InsertAt, 8), (DocumentOrder, 2),
-            (Compact, 1), (Read, 12), (Ranges, 5), (OrderKeys, 3), (Restart, 1),
+            (Compact, 1), (Read, 12), (Descendants, 2), (Ranges, 5), (OrderKeys, 3), (Restart, 1),
         ],
         bad: 60,
         odd: 50,
@@ -83,7 +85,7 @@ pub(crate) static PROFILES: [Profile; 12] = [
         acts: &[
             (AppendElement, 40), (AppendText, 14), (AppendComment, 4), (AppendPi, 4),
             (SetAttribute, 10), (DeclareNamespace, 6), (InsertAt, 6), (Remove, 2), (Ranges, 10),
-            (Read, 4), (Compact, 1), (DocumentOrder, 1),
+            (Read, 4), (Descendants, 2), (Compact, 1), (DocumentOrder, 1),
         ],
         bad: 10,
         odd: 10,
@@ -94,8 +96,8 @@ pub(crate) static PROFILES: [Profile; 12] = [
         name: "moves",
         acts: &[
             (AppendElement, 10), (AppendText, 6), (AppendComment, 2), (AppendPi, 2), (InsertAt, 30),
-            (Reparent, 16), (Detach, 8), (Remove, 3), (Ranges, 10), (Read, 6), (OrderKeys, 2),
-            (DocumentOrder, 2), (Compact, 2), (Restart, 1),
+            (Reparent, 16), (Detach, 8), (Remove, 3), (Ranges, 10), (Read, 6), (Descendants, 6),
+            (OrderKeys, 2), (DocumentOrder, 2), (Compact, 2), (Restart, 1),
         ],
         bad: 60,
         odd: 20,
@@ -109,7 +111,7 @@ pub(crate) static PROFILES: [Profile; 12] = [
             (AppendElement, 16), (AppendText, 14), (AppendComment, 6), (AppendPi, 6),
             (SetAttribute, 12), (DeclareNamespace, 10), (SetText, 6), (Remove, 14),
             (RemoveWidest, 3), (RemoveAttribute, 4), (Detach, 3), (Reparent, 2), (Read, 6),
-            (Ranges, 4), (OrderKeys, 4), (DocumentOrder, 1), (Compact, 1),
+            (Descendants, 3), (Ranges, 4), (OrderKeys, 4), (DocumentOrder, 1), (Compact, 1),
         ],
         bad: 80,
         odd: 10,

@@ -43,6 +43,7 @@ impl Generator {
     pub(super) fn call(&mut self, act: Act) -> Call {
         match act {
             Act::Read => self.reading(),
+            Act::Descendants => self.descendants(),
             Act::AppendElement => self.append_element(),
             Act::AppendText => self.append_text(),
             Act::AppendComment => {
@@ -156,11 +157,20 @@ impl Generator {
         Call::DeclareNamespace { element, prefix, uri: self.texts.uri(&mut self.random) }
     }
 
+    /// Of the Root, the top of a detached tree, or any container.
+    fn descendants(&mut self) -> Call {
+        Call::Descendants(match self.random.below(10) {
+            0 => self.document().root(),
+            1..4 => self.node(choose::detached),
+            _ => self.node(choose::container),
+        })
+    }
+
     fn reading(&mut self) -> Call {
         let node = self.node(choose::any);
         let container = self.node(choose::container);
         let owner = self.node(choose::owner);
-        match self.random.below(12) {
+        match self.random.below(13) {
             0 => Call::Root,
             1 => Call::RootElement,
             2 => Call::Nodes,
@@ -173,6 +183,7 @@ impl Generator {
                 let count = self.document().names.len();
                 Call::Name(choose::index(&mut self.random, count).min(u64::from(u32::MAX)))
             }
+            10 => self.descendants(),
             _ => Call::Kind(node),
         }
     }

@@ -115,7 +115,7 @@ const LACKS: [(&str, &[&str]); 9] = [
 ];
 
 /// Every other answer.
-const ACCEPTED: [&str; 41] = [
+const ACCEPTED: [&str; 42] = [
     "append_element h",
     "append_text h",
     "append_comment h",
@@ -148,6 +148,7 @@ const ACCEPTED: [&str; 41] = [
     "is_element b",
     "attribute_nodes l",
     "namespace_nodes l",
+    "descendants l",
     "order_key key",
     "order_key none",
     "name n",
