@@ -9,6 +9,7 @@ use crate::limits::Limits;
 use crate::port::Port;
 use crate::random::Random;
 use crate::tree::NodeId;
+use crate::walks;
 use oxml_lent::Record;
 
 const DAMAGED: u8 = 5;
@@ -30,6 +31,9 @@ pub struct Tally {
     pub sound: u64,
     pub refused: u64,
     pub calls: u64,
+    /// Walks from nodes and from made-up positions, and the nodes that they listed.
+    pub walks: u64,
+    pub listed: u64,
 }
 
 /// Tries damaged states until there were so many.
@@ -185,6 +189,15 @@ impl Trial {
                 if call.is_edit() { self.edit(&mut port, &before, &call, due) } else { read(&mut port, &call, due) };
             told.map_err(|fault| format!("{call}: {fault}\n{:?}\n{:?}", before.record, before.memory))?;
         }
+        self.walk(&mut port, valid).map_err(|fault| format!("{fault}\n{:?}\n{:?}", before.record, before.memory))
+    }
+
+    /// From a node, and from positions made up in the valid document and in the state.
+    fn walk(&mut self, port: &mut Port, valid: &Port) -> Result<(), String> {
+        let positions = [&mut valid.clone(), &mut *port].map(|port| walks::made_up(&mut self.random, port));
+        let from = self.handle(valid);
+        self.tally.listed += walks::in_any_memory(port, from, &positions)? as u64;
+        self.tally.walks += 1 + positions.len() as u64;
         Ok(())
     }
 

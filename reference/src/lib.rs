@@ -37,6 +37,8 @@ mod state;
 #[cfg(test)]
 mod tests;
 mod texts;
+#[cfg(feature = "port")]
+mod walks;
 
 #[cfg(feature = "port")]
 pub use bench::{Benchmark, bench};
@@ -50,3 +52,5 @@ pub use orders::{Pairs, orders};
 #[cfg(feature = "port")]
 pub use run::run_port;
 pub use run::{Options, Report, run};
+#[cfg(feature = "port")]
+pub use walks::{Walks, walks};

@@ -119,6 +119,13 @@ impl Memory {
         Some(state)
     }
 
+    /// The handles that resolve, in slot order; none where test 4 refuses the limits or the length.
+    #[cfg(feature = "port")]
+    pub(crate) fn live_nodes(&self) -> Option<Vec<NodeId>> {
+        let state = self.reader()?.state(self.current);
+        Some(rules::live(&state).map(|(id, _)| id).collect())
+    }
+
     /// How many words of scratch the limits ask for; 0 where test 4 refuses them.
     #[cfg(feature = "port")]
     pub(crate) fn scratch_words(&self) -> usize {

@@ -92,11 +92,11 @@ impl Port {
     }
 }
 
-fn lent(id: NodeId) -> oxml_lent::NodeId {
+pub(crate) fn lent(id: NodeId) -> oxml_lent::NodeId {
     oxml_lent::NodeId { index: id.index, generation: id.generation }
 }
 
-fn handle(id: oxml_lent::NodeId) -> NodeId {
+pub(crate) fn handle(id: oxml_lent::NodeId) -> NodeId {
     NodeId { index: id.index, generation: id.generation }
 }
 

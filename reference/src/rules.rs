@@ -15,7 +15,7 @@ pub(crate) fn broken(state: &State, limits: &Limits) -> Vec<usize> {
 }
 
 /// The live nodes with their handles.
-fn live(state: &State) -> impl Iterator<Item = (NodeId, &Node)> {
+pub(crate) fn live(state: &State) -> impl Iterator<Item = (NodeId, &Node)> {
     state.slots.iter().enumerate().filter_map(|(index, slot)| {
         let id = NodeId { index: u32::try_from(index).ok()?, generation: u32::try_from(slot.generation).ok()? };
         Some((id, resolve(state, id)?))

@@ -19,6 +19,10 @@ fn main() -> ExitCode {
                 "{} calls, each answered as it is due; every accepted one left a document that keeps the rules",
                 tally.calls
             );
+            println!(
+                "{} walks from nodes and from made-up positions ended; they listed {} nodes, each of which resolved",
+                tally.walks, tally.listed
+            );
             ExitCode::SUCCESS
         }
         Err(fault) => {
