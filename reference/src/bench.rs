@@ -5,7 +5,9 @@ mod measure;
 mod plot;
 mod reading;
 mod register;
+mod shapes;
 mod table;
+mod walking;
 
 use measure::Row;
 use register::Register;
@@ -40,5 +42,6 @@ pub fn bench() -> Result<Benchmark, String> {
         edits.extend(measure::edits(&register)?);
         all.push(Figures { nodes, floor: measure::floor(&register), edits, reads: reading::reads(&register)? });
     }
-    Ok(Benchmark { tables: table::tables(&all), plot: plot::plot(&all) })
+    let walks = walking::walks()?;
+    Ok(Benchmark { tables: table::tables(&all) + &table::walks(&walks), plot: plot::plot(&all) })
 }

@@ -2,6 +2,7 @@
 
 use super::Figures;
 use super::measure::Row;
+use super::walking::{Listing, Walk, Walks};
 use std::fmt::Write;
 
 pub(super) fn tables(all: &[Figures]) -> String {
@@ -21,6 +22,23 @@ pub(super) fn tables(all: &[Figures]) -> String {
             let Row { rust, port, .. } = &figures.reads[k];
             vec![format!("{rust:.1}"), format!("{port:.1} ({:.1})", port / rust)]
         });
+    }
+    out
+}
+
+pub(super) fn walks(all: &Walks) -> String {
+    let mut out =
+        String::from("\nNanoseconds for each node that a walk lists; in brackets the multiple of the Rust's.\n\n");
+    out.push_str("| | Rust | port, step by step | port, all at once |\n|---|---:|---:|---:|\n");
+    for Walk { name, rust, steps, list } in &all.sound {
+        let cell = |time: f64| format!("{time:.1} ({:.1})", time / rust);
+        writeln!(out, "| {name} | {rust:.1} | {} | {} |", cell(*steps), cell(*list))
+            .expect("a String takes everything");
+    }
+    out.push_str("\nWalks in damaged memory, beside the two in sound memory.\n\n");
+    out.push_str("| | nodes listed | microseconds |\n|---|---:|---:|\n");
+    for Listing { name, nodes, time } in &all.damaged {
+        writeln!(out, "| {name} | {nodes} | {} |", micro(*time)).expect("a String takes everything");
     }
     out
 }
