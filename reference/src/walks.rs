@@ -188,7 +188,7 @@ impl Trial {
         }
     }
 
-    /// The call of the list, or a move of a node that was listed to behind the one listed last, where the walk meets it again.
+    /// The call of the list, or a move of a node that was listed under the one listed last, where the walk meets it again.
     fn edit(&mut self, walk: &Walk, call: Call) -> Call {
         match walk.listed.as_slice() {
             [before @ .., last] if !before.is_empty() && self.random.chance(600) => {
