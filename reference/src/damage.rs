@@ -195,7 +195,7 @@ impl Trial {
     /// From a node, and from positions made up in the valid document and in the state.
     fn walk(&mut self, port: &mut Port, valid: &Port) -> Result<(), String> {
         let positions = [&mut valid.clone(), &mut *port].map(|port| walks::made_up(&mut self.random, port));
-        let from = self.handle(valid);
+        let from = if self.random.chance(300) { NodeId { index: 0, generation: 0 } } else { self.handle(valid) };
         self.tally.listed += walks::in_any_memory(port, from, &positions)? as u64;
         self.tally.walks += 1 + positions.len() as u64;
         Ok(())

@@ -80,7 +80,8 @@ pub(crate) fn made_up(random: &mut Random, port: &mut Port) -> Position {
     if random.chance(500) {
         return Position([(); 7].map(|()| any_word(random, port)));
     }
-    let from = oxml_lent::NodeId { index: random.below(24) as u32, generation: 0 };
+    let index = if random.chance(500) { 0 } else { a_slot(random, port) as u32 };
+    let from = oxml_lent::NodeId { index, generation: 0 };
     let steps = random.below(12);
     let Position(mut words) = some_steps(&port.document(), from, steps).unwrap_or(Position([0; 7]));
     for _ in 0..1 + random.below(2) {
@@ -103,9 +104,16 @@ fn some_steps(document: &Document, from: oxml_lent::NodeId, steps: usize) -> Opt
     Some(at)
 }
 
+/// A slot that was made, or the next.
+fn a_slot(random: &mut Random, port: &Port) -> usize {
+    let Record(words) = port.record;
+    let made = usize::try_from(words[8]).unwrap_or(usize::MAX);
+    random.below(made.min(23) + 1)
+}
+
 /// Mostly a slot's handle or a small number.
 fn any_word(random: &mut Random, port: &Port) -> u64 {
-    let slot = random.below(24);
+    let slot = a_slot(random, port);
     match random.below(8) {
         0..4 => slot as u64 | port.memory[slot] << 32,
         4 | 5 => slot as u64,
@@ -146,16 +154,20 @@ struct Walk {
 }
 
 impl Trial {
-    /// The calls of a list, with none to three steps before each; a walk that ends is followed by another.
+    /// The first calls of a list, then the others with none to three steps before each; a walk that ends is followed by another.
     fn over_a_list(&mut self, seed: u64, profile: &str) -> Result<(), String> {
-        let calls = generate::calls(seed, 40 + self.random.below(160), profile).ok_or("no such profile")?;
+        let calls = generate::calls(seed, 60 + self.random.below(200), profile).ok_or("no such profile")?;
+        let (first, others) = calls.split_at(calls.len().min(40));
         let mut port = Port::fresh(&LIMITS).map_err(|why| why.to_string())?;
+        for call in first {
+            port.call(call);
+        }
         let mut walk = self.begin(&mut port)?;
-        for call in calls {
+        for call in others {
             for _ in 0..self.random.below(4) {
                 walk = self.step(&mut port, walk)?;
             }
-            let call = self.edit(&walk, call);
+            let call = self.edit(&mut port, &walk).unwrap_or_else(|| call.clone());
             let answer = port.call(&call);
             walk.edits += u64::from(call.is_edit() && !matches!(answer, Answer::Refused(_)));
         }
@@ -164,7 +176,7 @@ impl Trial {
 
     fn begin(&mut self, port: &mut Port) -> Result<Walk, String> {
         let live = port.laid_out().live_nodes().ok_or("the document is refused")?;
-        let from = if self.random.chance(500) { live[0] } else { self.random.pick(&live) };
+        let from = if self.random.chance(800) { live[0] } else { self.random.pick(&live) };
         let at = port.document().walk_from(lent(from)).map_err(|why| why.to_string())?;
         Ok(Walk { at, listed: Vec::new(), edits: 0 })
     }
@@ -188,13 +200,14 @@ impl Trial {
         }
     }
 
-    /// The call of the list, or a move of a node that was listed under the one listed last, where the walk meets it again.
-    fn edit(&mut self, walk: &Walk, call: Call) -> Call {
-        match walk.listed.as_slice() {
-            [before @ .., last] if !before.is_empty() && self.random.chance(600) => {
-                Call::Reparent { node: self.random.pick(before), parent: *last }
-            }
-            _ => call,
+    /// Mostly a move of a node that was listed to where the walk meets it again: under the one listed last, or behind it.
+    fn edit(&mut self, port: &mut Port, walk: &Walk) -> Option<Call> {
+        let [before @ .., last] = walk.listed.as_slice() else { return None };
+        if before.is_empty() || self.random.chance(300) {
+            return None;
         }
+        let node = self.random.pick(before);
+        let above = port.document().parent(lent(*last)).ok().flatten().map_or(*last, handle);
+        Some(Call::Reparent { node, parent: if self.random.chance(500) { *last } else { above } })
     }
 }
