@@ -9,7 +9,7 @@ use crate::limits::Limits;
 use crate::port::Port;
 use crate::random::Random;
 use crate::tree::NodeId;
-use crate::walks;
+use crate::walks::{self, Walks};
 use oxml_lent::Record;
 
 const DAMAGED: u8 = 5;
@@ -31,9 +31,8 @@ pub struct Tally {
     pub sound: u64,
     pub refused: u64,
     pub calls: u64,
-    /// Walks from nodes and from made-up positions, and the nodes that they listed.
-    pub walks: u64,
-    pub listed: u64,
+    /// From nodes and from made-up positions.
+    pub walks: Walks,
 }
 
 /// Tries damaged states until there were so many.
@@ -49,6 +48,7 @@ pub fn damage(seed: u64, states: u64) -> Result<Tally, String> {
             let valid = valid_document(number, profile, &mut trial.random)?;
             trial.every_word(&valid)?;
             trial.several_words(&valid)?;
+            trial.repeated_entries(&valid)?;
             trial.forged_records(&valid)?;
         }
         number += 1;
@@ -133,6 +133,21 @@ impl Trial {
         Ok(())
     }
 
+    /// A node twice in a list, or in two: walks come to it again.
+    fn repeated_entries(&mut self, valid: &Port) -> Result<(), String> {
+        let Record(words) = valid.record;
+        // The children's entries begin behind fifteen words a node.
+        let (first, entries) = (15 * LIMITS.nodes as usize, words[10] as usize);
+        for at in first..first + entries {
+            for from in [at - 1, at + 1, first + self.random.below(entries)] {
+                let mut port = valid.clone();
+                port.memory[at] = valid.memory[from];
+                self.state(port, valid)?;
+            }
+        }
+        Ok(())
+    }
+
     /// Each number of the record in turn, then several, also with a word of memory changed.
     fn forged_records(&mut self, valid: &Port) -> Result<(), String> {
         let Record(words) = valid.record;
@@ -196,8 +211,7 @@ impl Trial {
     fn walk(&mut self, port: &mut Port, valid: &Port) -> Result<(), String> {
         let positions = [&mut valid.clone(), &mut *port].map(|port| walks::made_up(&mut self.random, port));
         let from = if self.random.chance(300) { NodeId { index: 0, generation: 0 } } else { self.handle(valid) };
-        self.tally.listed += walks::in_any_memory(port, from, &positions)? as u64;
-        self.tally.walks += 1 + positions.len() as u64;
+        self.tally.walks.add(&walks::in_any_memory(port, from, &positions)?);
         Ok(())
     }
 

@@ -29,13 +29,28 @@ pub struct Walks {
     pub edits: u64,
 }
 
+impl Walks {
+    /// What one walk listed.
+    fn count(&mut self, nodes: u64, limit: u64) {
+        self.nodes += nodes;
+        self.longest += u64::from(nodes == limit);
+    }
+
+    pub(crate) fn add(&mut self, other: &Walks) {
+        self.walks += other.walks;
+        self.longest += other.longest;
+        self.nodes += other.nodes;
+    }
+}
+
 // ---- in any memory
 
-/// Walks from a node and from made-up positions; how many nodes they list together.
-pub(crate) fn in_any_memory(port: &mut Port, from: NodeId, positions: &[Position]) -> Result<usize, String> {
+/// Walks from a node and from made-up positions.
+pub(crate) fn in_any_memory(port: &mut Port, from: NodeId, positions: &[Position]) -> Result<Walks, String> {
+    let mut tally = Walks { walks: 1 + positions.len() as u64, ..Walks::default() };
     let memory = port.laid_out();
     let Some(live) = memory.live_nodes() else {
-        return are_refused(&port.document(), from, positions).map(|()| 0);
+        return are_refused(&port.document(), from, positions).map(|()| tally);
     };
     let document = port.document();
     let start = document.walk_from(lent(from)).map_err(|why| why.to_string())?;
@@ -43,12 +58,12 @@ pub(crate) fn in_any_memory(port: &mut Port, from: NodeId, positions: &[Position
     if document.list_below(lent(from)).as_ref() != Ok(&listed) {
         return Err(format!("step by step {listed:?} is below {from:?}, and not by list_below"));
     }
-    let mut nodes = listed.len();
+    tally.count(listed.len() as u64, memory.limits[0]);
     for at in positions {
-        nodes += listed_from(&document, *at, &live)?.len();
+        tally.count(listed_from(&document, *at, &live)?.len() as u64, memory.limits[0]);
     }
     let same = port.laid_out() == memory;
-    if same { Ok(nodes) } else { Err("a walk changed the document".to_string()) }
+    if same { Ok(tally) } else { Err("a walk changed the document".to_string()) }
 }
 
 fn are_refused(document: &Document, from: NodeId, positions: &[Position]) -> Result<(), String> {
@@ -75,8 +90,16 @@ fn listed_from(document: &Document, from: Position, live: &[NodeId]) -> Result<V
 
 // ---- made-up positions
 
-/// Words from anywhere, or a walk's with one or two of them changed.
+/// Words from anywhere, or a walk's with one or two of them changed; some with no end of nodes left.
 pub(crate) fn made_up(random: &mut Random, port: &mut Port) -> Position {
+    let Position(mut words) = some_words(random, port);
+    if random.chance(300) {
+        words[6] = u64::MAX;
+    }
+    Position(words)
+}
+
+fn some_words(random: &mut Random, port: &mut Port) -> Position {
     if random.chance(500) {
         return Position([(); 7].map(|()| any_word(random, port)));
     }
@@ -185,11 +208,10 @@ impl Trial {
         let next = port.document().walk_next(walk.at).map_err(|why| why.to_string())?;
         let Some((id, at)) = next else {
             self.tally.walks += 1;
-            self.tally.longest += u64::from(walk.listed.len() as u64 == LIMITS.nodes);
             self.tally.edits += walk.edits;
+            self.tally.count(walk.listed.len() as u64, LIMITS.nodes);
             return self.begin(port);
         };
-        self.tally.nodes += 1;
         walk.at = at;
         walk.listed.push(handle(id));
         let live = port.laid_out().live_nodes().unwrap_or_default();

@@ -20,8 +20,8 @@ fn main() -> ExitCode {
                 tally.calls
             );
             println!(
-                "{} walks from nodes and from made-up positions ended; they listed {} nodes, each of which resolved",
-                tally.walks, tally.listed
+                "{} walks from nodes and from made-up positions ended, {} of them at the node limit; they listed {} nodes, each of which resolved",
+                tally.walks.walks, tally.walks.longest, tally.walks.nodes
             );
             ExitCode::SUCCESS
         }
