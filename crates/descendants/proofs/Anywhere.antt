@@ -79,7 +79,7 @@ following-tells (suc f) room d p x = go (λ q rest. following-tells f rest d p q
     go ih (some q) =
         let l : List ℕ = shownList d children q in
         let k : ℕ = hintedIndex l x (hintFor (p .hints) (length l)) in
-        under ih q l k (leb (length l) room) (ltb (suc k) (length l))
+        under ih q l k (resolves d q && leb (length l) room) (ltb (suc k) (length l))
 
 next-tells : (d : Doc) (p : Position) → Tells d p (next d p)
 next-tells d p = go (ltb 0 (min (p .left) (d .limits .nodes)) && resolves d (p .node)) (ltb 0 (length l))
@@ -211,18 +211,20 @@ looked-within (suc f) room d p x = go (λ q rest. looked-within f rest d p q) (p
     found n End = omega arith
     found n (At v) = omega arith
 
-    under : ((q rest : ℕ) → looked f rest d p q ≤ rest) → (q n : ℕ) (w : Walked) (b c : Bool) → leb n room ≡ b
-        → cond b n 0 + more above (cond b (cond c (outcome w) (seeks.Above q (room - n))) seeks.End) ≤ room
-    under ih q n w true true e = omega (arith, leb-true n room e, found n w)
-    under ih q n w true false e = omega (arith, leb-true n room e, ih q (room - n))
-    under ih q n w false c e = omega arith
+    under : ((q rest : ℕ) → looked f rest d p q ≤ rest) → (q n : ℕ) (w : Walked) (s b c : Bool) → leb n room ≡ b
+        → cond b n 0 + more above (cond (s && b) (cond c (outcome w) (seeks.Above q (room - n))) seeks.End) ≤ room
+    under ih q n w true true true e = omega (arith, leb-true n room e, found n w)
+    under ih q n w true true false e = omega (arith, leb-true n room e, ih q (room - n))
+    under ih q n w true false c e = omega arith
+    under ih q n w false true c e = omega (arith, leb-true n room e)
+    under ih q n w false false c e = omega arith
 
     go : ((q rest : ℕ) → looked f rest d p q ≤ rest) → (o : Option ℕ) → lookedUnder room d o + more above (seekUnder room d p x o) ≤ room
     go ih none = omega arith
     go ih (some q) =
         let l : List ℕ = shownList d children q in
         let k : ℕ = hintedIndex l x (hintFor (p .hints) (length l)) in
-        under ih q (length l) (visitEntry d p q l (suc k)) (leb (length l) room) (ltb (suc k) (length l)) refl
+        under ih q (length l) (visitEntry d p q l (suc k)) (resolves d q) (leb (length l) room) (ltb (suc k) (length l)) refl
 
 pub one-step : OneStep
 one-step d p = looked-within (length (d .gens)) (length (d .gens)) d p (p .node)

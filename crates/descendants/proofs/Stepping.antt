@@ -16,6 +16,7 @@ use Rattle.words.specs.Lists.{indexOf}
 use Rattle.words.proofs.Tests.{and-left}
 use Rattle.words.proofs.Lists.{length-tabulate, indexOf-le}
 use Rattle.words.proofs.Parts.{length-part, getD-part, lent}
+use Rattle.reading.specs.Contract.{parentShown}
 use Rattle.reading.proofs.Listed.{block-lent, shown-inside}
 use Rattle.blocks.specs.Arena.{Block, listOf}
 use Rattle.slots.specs.Handles.{wordOf, idOf}
@@ -33,7 +34,7 @@ use Rattle.descendants.specs.declared.position.Walked.{Walked}
 use Rattle.descendants.specs.declared.position.Walked.the-variants.{At, End}
 use Rattle.descendants.specs.declared.step.Sought.{Sought}
 use Rattle.descendants.specs.declared.step.Sought.the-variants as seeks
-use Rattle.descendants.specs.Walking.{hintFor, withHint, hintedIndex, parentShown, namesParent, visitEntry, outcome, seekUnder, seek, resumed, following, successor, next}
+use Rattle.descendants.specs.Walking.{hintFor, withHint, hintedIndex, namesParent, visitEntry, outcome, seekUnder, parentBelow, seek, resumed, following, successor, next}
 
 -- ---- hints
 
@@ -145,23 +146,13 @@ pub found-index : (d : Document) (mem : List ℕ) (b : Block) → memoryOk d (le
 found-index d mem b ok f x start r q e =
     e ∙ ap (indexOf (eqb x)) (sym (lent mem (start + b .start) (b .len)) ∙ block-lent d mem children start b q f)
 
-module _ (D : Doc) (word : ℕ) (id : NodeId) (i : id ≡ idOf word) (t : Bool) (e : t ≡ resolves D (wordOf id)) where
-  same : wordOf id ≡ word
-  same = ap wordOf i ∙ wordOf-idOf word
-
-  pub parent-found : t ≡ true → (o : Option ℕ) → o ≡ parentIn D (id .index) → o ≡ parentShown D word
-  parent-found y o q =
-      let r : resolves D word ≡ true = ap (resolves D) (sym same) ∙ sym e ∙ y in
-      q ∙ ap (λ (x : NodeId). parentIn D (x .index)) i ∙ sym (ap (λ (c : Bool). cond c (parentAt D word) none) r)
-
-  pub parent-missed : t ≡ false → none ≡ parentShown D word
-  parent-missed y =
-      let r : resolves D word ≡ false = ap (resolves D) (sym same) ∙ sym e ∙ y in
-      sym (ap (λ (c : Bool). cond c (parentAt D word) none) r)
+-- a handle that went through its two halves
+same-word : (id : NodeId) (word : ℕ) → id ≡ idOf word → wordOf id ≡ word
+same-word id word i = ap wordOf i ∙ wordOf-idOf word
 
 -- a parent compared with another handle
-pub named-parent : (D : Doc) (q y : ℕ) (o : Option ℕ) → o ≡ parentShown D y → anyOption (eqb q) o ≡ namesParent D q y
-named-parent D q y o e = ap (anyOption (eqb q)) e
+pub named-parent : (D : Doc) (q y : ℕ) (id : NodeId) → id ≡ idOf y → (o : Option ℕ) → o ≡ parentShown D (wordOf id) → anyOption (eqb q) o ≡ namesParent D q y
+named-parent D q y id i o e = ap (anyOption (eqb q)) (e ∙ ap (parentShown D) (same-word id y i))
 
 -- ---- one turn
 
@@ -170,63 +161,102 @@ module _ (D : Doc) (p : Position) (x room : ℕ) where
   unfolding seek
   seek-zone e = rw (eq-eqb x (p .zone) e)
 
-  pub seek-top : x ≢ p .zone → none ≡ parentShown D x → seeks.End ≡ seek room D p x
-  unfolding seek
-  seek-top n e = rw (ne-eqb x (p .zone) n) (ap (seekUnder room D p x) e)
+  module _ (n : x ≢ p .zone) (id : NodeId) (i : id ≡ idOf x) where
+    pub seek-top : none ≡ parentShown D (wordOf id) → seeks.End ≡ seek room D p x
+    unfolding seek
+    seek-top e = rw (ne-eqb x (p .zone) n) (ap (seekUnder room D p x) (e ∙ ap (parentShown D) (same-word id x i)))
 
-  pub seek-up : x ≢ p .zone → (q : ℕ) → some q ≡ parentShown D x → (r : Sought) → r ≡ seekUnder room D p x (some q) → r ≡ seek room D p x
+    pub seek-up : (q : ℕ) → some q ≡ parentShown D (wordOf id) → (r : Sought) → r ≡ seekUnder room D p x (some q) → r ≡ seek room D p x
+    unfolding seek
+    seek-up q e r f = rw (ne-eqb x (p .zone) n) (f ∙ ap (seekUnder room D p x) (e ∙ ap (parentShown D) (same-word id x i)))
+
+  -- a turn that goes further up goes to a node that resolves
+  pub above-resolves : (w : Sought) → w ≡ seek room D p x → (q r : ℕ) → w ≡ seeks.Above q r → resolves D q ≡ true
   unfolding seek
-  seek-up n q e r f = rw (ne-eqb x (p .zone) n) (f ∙ ap (seekUnder room D p x) e)
+  above-resolves w e q r f = go (parentBelow D p x) (sym e ∙ f)
+    where
+      same : (k r′ : ℕ) → seeks.Above k r′ ≡ seeks.Above q r → k ≡ q
+      same k r′ e = cc
+
+      no-end : seeks.End ≡ seeks.Above q r → resolves D q ≡ true
+      no-end e = absurd (let z : _≡_ {A = ℕ} 0 1 = cc in omega arith)
+
+      no-node : (w : Walked) → outcome w ≡ seeks.Above q r → resolves D q ≡ true
+      no-node End e = no-end e
+      no-node (At v) e = absurd (let z : _≡_ {A = ℕ} 0 1 = cc in omega arith)
+
+      under : (k r′ : ℕ) (w : Walked) (s b c : Bool) → resolves D k ≡ s → cond (s && b) (cond c (outcome w) (seeks.Above k r′)) seeks.End ≡ seeks.Above q r → resolves D q ≡ true
+      under k r′ w true true true s e = no-node w e
+      under k r′ w true true false s e = ap (resolves D) (sym (same k r′ e)) ∙ s
+      under k r′ w true false c s e = no-end e
+      under k r′ w false b c s e = no-end e
+
+      go : (o : Option ℕ) → seekUnder room D p x o ≡ seeks.Above q r → resolves D q ≡ true
+      go none e = no-end e
+      go (some k) e =
+          let l : List ℕ = shownList D children k in
+          let j : ℕ = hintedIndex l x (hintFor (p .hints) (length l)) in
+          under k (room - length l) (visitEntry D p k l (suc j)) (resolves D k) (leb (length l) room) (ltb (suc j) (length l)) refl e
 
 -- ---- under a parent
 
-module _ (d : Document) (mem : List ℕ) (ok : memoryOk d (length mem) ≡ true) (p : Position) (x q room : ℕ) (id : NodeId) (i : id ≡ idOf q) (b : Block) (e : b ≡ shownBlock (decode d mem) children (wordOf id)) where
+module _ (d : Document) (mem : List ℕ) (p : Position) (x room : ℕ) (id : NodeId) (t : Bool) (r : t ≡ resolves (decode d mem) (wordOf id)) where
   abbrev D : Doc
   D = decode d mem
 
-  abbrev l : List ℕ
-  l = listOf (arenaIn d children mem) b
-
-  pub block-inside : b .start + b .len ≤ entriesOf (d .limits) children
-  block-inside = shown-inside d mem children (wordOf id) b e
-
-  shown-is : shownList D children q ≡ l
-  shown-is = ap (λ (h : ℕ). shownList D children h) (sym (ap wordOf i ∙ wordOf-idOf q)) ∙ ap (λ (c : Block). listOf (arenaIn d children mem) c) (sym e)
+  abbrev q : ℕ
+  q = wordOf id
 
   -- one turn by the list shown, and by where the node stands in it
   abbrev looked : List ℕ → Sought
   looked v = cond (ltb (suc (hintedIndex v x (hintFor (p .hints) (length v)))) (length v)) (outcome (visitEntry D p q v (suc (hintedIndex v x (hintFor (p .hints) (length v)))))) (seeks.Above q (room - length v))
 
-  turned : seekUnder room D p x (some q) ≡ cond (leb (length l) room) (looked l) seeks.End
-  turned = ap (λ (v : List ℕ). cond (leb (length v) room) (looked v) seeks.End) shown-is
+  by-test : seekUnder room D p x (some q) ≡ cond (t && leb (length (shownList D children q)) room) (looked (shownList D children q)) seeks.End
+  by-test = ap (λ (c : Bool). cond (c && leb (length (shownList D children q)) room) (looked (shownList D children q)) seeks.End) (sym r)
 
-  pub under-full : room < b .len → seeks.End ≡ seekUnder room D p x (some q)
-  under-full h =
-      let z = shown-length d mem b ok block-inside in
-      sym (turned ∙ ap (λ (c : Bool). cond c (looked l) seeks.End) (lt-leb (length l) room (omega arith)))
+  pub under-stale : t ≡ false → seeks.End ≡ seekUnder room D p x (some q)
+  under-stale f = sym (by-test ∙ ap (λ (c : Bool). cond (c && leb (length (shownList D children q)) room) (looked (shownList D children q)) seeks.End) f)
 
-  module _ (g k : ℕ) (m : g ≡ hintFor (p .hints) (b .len)) (n : k ≡ hintedIndex l x g) (roomy : b .len ≤ room) where
-    index : k ≡ hintedIndex l x (hintFor (p .hints) (length l))
-    index = n ∙ ap (hintedIndex l x) (m ∙ ap (hintFor (p .hints)) (sym (shown-length d mem b ok block-inside)))
+  module _ (y : t ≡ true) (ok : memoryOk d (length mem) ≡ true) (b : Block) (e : b ≡ shownBlock D children (wordOf id)) where
+    abbrev l : List ℕ
+    l = listOf (arenaIn d children mem) b
 
-    looks : seekUnder room D p x (some q) ≡ cond (ltb (suc k) (length l)) (outcome (visitEntry D p q l (suc k))) (seeks.Above q (room - length l))
-    looks =
+    block-inside : b .start + b .len ≤ entriesOf (d .limits) children
+    block-inside = shown-inside d mem children (wordOf id) b e
+
+    turned : seekUnder room D p x (some q) ≡ cond (leb (length l) room) (looked l) seeks.End
+    turned =
+        by-test ∙ ap (λ (c : Bool). cond (c && leb (length (shownList D children q)) room) (looked (shownList D children q)) seeks.End) y
+        ∙ ap (λ (c : Block). cond (leb (length (listOf (arenaIn d children mem) c)) room) (looked (listOf (arenaIn d children mem) c)) seeks.End) (sym e)
+
+    pub under-full : room < b .len → seeks.End ≡ seekUnder room D p x (some q)
+    under-full h =
         let z = shown-length d mem b ok block-inside in
-        turned ∙ ap (λ (c : Bool). cond c (looked l) seeks.End) (le-leb (length l) room (omega arith))
-        ∙ ap (λ (j : ℕ). cond (ltb (suc j) (length l)) (outcome (visitEntry D p q l (suc j))) (seeks.Above q (room - length l))) (sym index)
+        sym (turned ∙ ap (λ (c : Bool). cond c (looked l) seeks.End) (lt-leb (length l) room (omega arith)))
 
-    pub under-at : suc k < b .len → (w : Walked) → w ≡ visitEntry D p q l (k + 1) → (r : Sought) → r ≡ outcome w → r ≡ seekUnder room D p x (some q)
-    under-at h w f r s =
-        let z = shown-length d mem b ok block-inside in
-        s ∙ ap outcome (f ∙ ap (visitEntry D p q l) (add-one k)) ∙ sym (looks
-        ∙ ap (λ (c : Bool). cond c (outcome (visitEntry D p q l (suc k))) (seeks.Above q (room - length l))) (lt-ltb (suc k) (length l) (omega arith)))
+    module _ (g k : ℕ) (m : g ≡ hintFor (p .hints) (b .len)) (n : k ≡ hintedIndex l x g) (roomy : b .len ≤ room) (a : ℕ) (i : a ≡ q) where
+      index : k ≡ hintedIndex l x (hintFor (p .hints) (length l))
+      index = n ∙ ap (hintedIndex l x) (m ∙ ap (hintFor (p .hints)) (sym (shown-length d mem b ok block-inside)))
 
-    pub under-above : b .len ≤ suc k → seeks.Above q (room - b .len) ≡ seekUnder room D p x (some q)
-    under-above h =
-        let z = shown-length d mem b ok block-inside in
-        sym (looks
-        ∙ ap (λ (c : Bool). cond c (outcome (visitEntry D p q l (suc k))) (seeks.Above q (room - length l))) (le-ltb (suc k) (length l) (omega arith))
-        ∙ ap (λ (n : ℕ). seeks.Above q (room - n)) z)
+      looks : seekUnder room D p x (some q) ≡ cond (ltb (suc k) (length l)) (outcome (visitEntry D p a l (suc k))) (seeks.Above a (room - length l))
+      looks =
+          let z = shown-length d mem b ok block-inside in
+          turned ∙ ap (λ (c : Bool). cond c (looked l) seeks.End) (le-leb (length l) room (omega arith))
+          ∙ ap (λ (j : ℕ). cond (ltb (suc j) (length l)) (outcome (visitEntry D p q l (suc j))) (seeks.Above q (room - length l))) (sym index)
+          ∙ ap (λ (j : ℕ). cond (ltb (suc k) (length l)) (outcome (visitEntry D p j l (suc k))) (seeks.Above j (room - length l))) (sym i)
+
+      pub under-at : suc k < b .len → (w : Walked) → w ≡ visitEntry D p a l (k + 1) → (s : Sought) → s ≡ outcome w → s ≡ seekUnder room D p x (some q)
+      under-at h w f s u =
+          let z = shown-length d mem b ok block-inside in
+          u ∙ ap outcome (f ∙ ap (visitEntry D p a l) (add-one k)) ∙ sym (looks
+          ∙ ap (λ (c : Bool). cond c (outcome (visitEntry D p a l (suc k))) (seeks.Above a (room - length l))) (lt-ltb (suc k) (length l) (omega arith)))
+
+      pub under-above : b .len ≤ suc k → seeks.Above a (room - b .len) ≡ seekUnder room D p x (some q)
+      under-above h =
+          let z = shown-length d mem b ok block-inside in
+          sym (looks
+          ∙ ap (λ (c : Bool). cond c (outcome (visitEntry D p a l (suc k))) (seeks.Above a (room - length l))) (le-ltb (suc k) (length l) (omega arith))
+          ∙ ap (λ (n : ℕ). seeks.Above a (room - n)) z)
 
 pub hinted-within : (v : List ℕ) (x k : ℕ) → hintedIndex v x k ≤ length v
 unfolding hintedIndex
@@ -240,7 +270,7 @@ hinted-within v x k = go (ltb k (length v) && eqb x (getD v k 0)) refl
 
 module _ (d : Document) (mem : List ℕ) (ok : memoryOk d (length mem) ≡ true) (p : Position) (id : NodeId) (i : id ≡ idOf (p .node)) where
   node-same : wordOf id ≡ p .node
-  node-same = ap wordOf i ∙ wordOf-idOf (p .node)
+  node-same = same-word id (p .node) i
 
   module _ (b : Block) (e : b ≡ shownBlock (decode d mem) children (wordOf id)) where
     node-shown : shownList (decode d mem) children (p .node) ≡ listOf (arenaIn d children mem) b

@@ -15,6 +15,7 @@ use Rattle.words.specs.Lists.{indexOf, joined, countOf}
 use Rattle.model.specs.Kinds.{children}
 use Rattle.model.specs.Doc.{Doc, resolves, shownList, mapOption, anyOption}
 use Rattle.model.specs.Edits.{walk}
+use Rattle.reading.specs.Contract.{parentShown}
 use Rattle.model.specs.Tree.{Tree}
 use Rattle.model.proofs.Wf.{Distinct, Ends, WF}
 use Rattle.model.proofs.Sim.{Sim}
@@ -31,7 +32,7 @@ use Rattle.descendants.specs.declared.position.Walked.{Walked}
 use Rattle.descendants.specs.declared.position.Walked.the-variants.{At, End}
 use Rattle.descendants.specs.declared.step.Sought.{Sought}
 use Rattle.descendants.specs.declared.step.Sought.the-variants as seeks
-use Rattle.descendants.specs.Walking.{hintFor, withHint, hintedIndex, parentShown, namesParent, visitEntry, outcome, seek, resumed, following, next, start, listed, listFrom, walked, below, descendants}
+use Rattle.descendants.specs.Walking.{hintFor, withHint, hintedIndex, namesParent, visitEntry, outcome, seek, resumed, following, next, start, listed, listFrom, walked, below, descendants}
 use Rattle.descendants.proofs.Hints.{behind, hinted-is, index-map, behind-cons, behind-nil, behind-first}
 use Rattle.descendants.proofs.Stack.{up, strict}
 
@@ -191,7 +192,7 @@ module _ {d : Doc} {t : Tree} {hs : ℕ → ℕ} (S : Sim d t hs) (W : WF t) (z 
       turn = cond (ltb (suc k) (length (map hs l))) (outcome (visitEntry d p (hs q) (map hs l) (suc k))) (seeks.Above (hs q) (room - length (map hs l)))
 
       way : following (suc f) room d p (hs x) ≡ resumed above-it turn
-      way = rw (not-zone, parent-shown x q lx e, shown, le-leb (length (map hs l)) room fits, hint (hintFor (p .hints) (length (map hs l))))
+      way = rw (not-zone, parent-shown x q lx e, shown, resolves-live d t hs S q lq, le-leb (length (map hs l)) room fits, hint (hintFor (p .hints) (length (map hs l))))
 
       go : ((rq : Ends (t .parent) q) → steps rq ≤ f → Outcome p (following f (room - length (map hs l)) d p (hs q)) (up t z r)) → Dec (suc k < length l)
           → Outcome p (resumed above-it turn) (behind x l ++ up t z r)

@@ -7,8 +7,9 @@ use lib.Dec.{eqb, leb, ltb}
 use lib.ListN.{length, getD}
 use Rattle.words.specs.Lists.{indexOf, joined}
 use Rattle.model.specs.Kinds.{children}
-use Rattle.model.specs.Doc.{Doc, resolves, parentAt, shownList, anyOption}
+use Rattle.model.specs.Doc.{Doc, resolves, shownList, anyOption}
 use Rattle.model.specs.Tree.{Tree}
+use Rattle.reading.specs.Contract.{parentShown}
 use Rattle.descendants.specs.declared.position.Hints.{Hints}
 use Rattle.descendants.specs.declared.position.Position.{Position}
 use Rattle.descendants.specs.declared.position.Walked.{Walked}
@@ -45,9 +46,6 @@ hintedIndex l x k = cond (ltb k (length l) && eqb x (getD l k 0)) k (indexOf (eq
 
 -- ---- one step
 
-abbrev pub parentShown : Doc → ℕ → Option ℕ
-parentShown d x = cond (resolves d x) (parentAt d x) none
-
 -- y resolves, and q is its parent
 abbrev pub namesParent : Doc → ℕ → ℕ → Bool
 namesParent d q y = anyOption (eqb q) (parentShown d y)
@@ -63,13 +61,14 @@ abbrev pub outcome : Walked → Sought
 outcome End = seeks.End
 outcome (At q) = seeks.At q
 
--- behind x in the list of its parent, or further up from the parent; a list longer than the room that is left is not looked at, and only damaged memory has one
+-- behind x in the list of its parent, or further up from the parent; a parent that does not resolve, or whose list is longer than the room that is left,
+-- ends the walk, and only damaged memory has one
 abbrev pub seekUnder : ℕ → Doc → Position → ℕ → Option ℕ → Sought
 seekUnder room d p x none = seeks.End
 seekUnder room d p x (some q) =
     let l = shownList d children q in
     let k = hintedIndex l x (hintFor (p .hints) (length l)) in
-    cond (leb (length l) room)
+    cond (resolves d q && leb (length l) room)
     (cond (ltb (suc k) (length l)) (outcome (visitEntry d p q l (suc k))) (seeks.Above q (room - length l)))
     seeks.End
 

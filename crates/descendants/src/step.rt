@@ -7,17 +7,22 @@ ghost use lib.ListN.{length};
 ghost use lib.Dec.{eqb};
 ghost use Rattle.words.specs.Lists.{indexOf};
 ghost use Rattle.blocks.specs.Arena.{listOf};
+ghost use Rattle.slots.specs.Handles.{wordOf, idOf};
 ghost use Rattle.model.specs.Kinds.{children};
+ghost use Rattle.model.specs.Doc.{resolves};
 ghost use Rattle.memory.specs.Layout.{entriesOf, memoryOk};
-ghost use Rattle.memory.specs.Decode.{blockOf, arenaIn, slotsMade, handleOf, decode};
-ghost use Rattle.descendants.specs.Walking.{hintedIndex, parentShown, namesParent, visitEntry, outcome, seekUnder, seek, following, successor, next};
+ghost use Rattle.memory.specs.Decode.{blockOf, arenaIn, slotsMade, decode};
+ghost use Rattle.descendants.specs.Walking.{hintedIndex, namesParent, visitEntry, outcome, seekUnder, seek, following, successor, next};
 use crate::position::Position;
 use crate::position::Walked;
 use crate::position::hint_for;
 use crate::position::with_hint;
 use memory::layout::Arena;
 use memory::layout::Document;
-use reading::shown::shown_block;
+use reading::shown::live_shown_block;
+use reading::shown::live_shown_parent;
+use reading::shown::shown_parent;
+use slots::NodeId;
 use slots::Parent;
 use slots::Range;
 
@@ -51,19 +56,11 @@ fn hinted_index(d: Document, mem: &[u64], block: Range, word: u64, hint: usize) 
     index_of(d, mem, block, word)
 }
 
-// The parent of a node that resolves.
-fn parent_shown(d: Document, mem: &[u64], word: u64) -> Parent
-    requires { ⌜ memoryOk d (length (now mem)) ≡ true ⌝ }
-    ensures { λ r. ⌜ handleOf r ≡ parentShown (decode d (now (mem .entry))) word ⌝ }
-{
-    shown_parent(d, mem, slots::handle::id_of(word))
-}
-
 fn names_parent(d: Document, mem: &[u64], parent: u64, word: u64) -> bool
     requires { ⌜ memoryOk d (length (now mem)) ≡ true ⌝ }
     ensures { λ r. ⌜ r ≡ namesParent (decode d (now (mem .entry))) parent word ⌝ }
 {
-    match parent_shown(d, mem, word) {
+    match shown_parent(d, mem, slots::handle::id_of(word)) {
         Parent::None => false,
         Parent::Of(id) => parent == slots::handle::word_of(id),
     }
@@ -108,39 +105,67 @@ fn outcome(w: Walked) -> Sought
     }
 }
 
-// Behind a node in its parent's list, or further up; a list longer than the room ends the walk.
-fn seek_under(d: Document, mem: &[u64], at: Position, word: u64, parent: u64, room: usize) -> Sought
-    requires { ⌜ (memoryOk d (length (now mem)) ≡ true) × (0 < min (at .left) (d .limits .nodes)) ⌝ }
-    ensures { λ r. ⌜ r ≡ seekUnder room (decode d (now (mem .entry))) at word (some parent) ⌝ }
+// Behind a node in the list of its parent, which resolves, or further up; a list longer than the room ends the walk.
+fn seek_listed(
+    d: Document,
+    mem: &[u64],
+    at: Position,
+    word: u64,
+    parent: NodeId,
+    room: usize,
+) -> Sought
+    requires { ⌜ (memoryOk d (length (now mem)) ≡ true) × (0 < min (at .left) (d .limits .nodes)) × (resolves (decode d (now mem)) (wordOf parent) ≡ true) ⌝ }
+    ensures { λ r. ⌜ r ≡ seekUnder room (decode d (now (mem .entry))) at word (some (wordOf parent)) ⌝ }
 {
-    let block = shown_block(d, mem, slots::handle::id_of(parent), Arena::Children);
+    let block = live_shown_block(d, mem, parent, Arena::Children);
     let len = block.len as usize;
     if room < len {
         return Sought::End;
     }
     let k = hinted_index(d, mem, block, word, hint_for(at.hints, len));
+    let above = slots::handle::word_of(parent);
     if k + 1 < len {
-        return outcome(visit_entry(d, mem, at, parent, block, k + 1));
+        return outcome(visit_entry(d, mem, at, above, block, k + 1));
     }
-    Sought::Above(parent, room - len)
+    Sought::Above(above, room - len)
 }
 
-fn seek(d: Document, mem: &[u64], at: Position, word: u64, room: usize) -> Sought
+// A parent that does not resolve ends the walk.
+fn seek_under(
+    d: Document,
+    mem: &[u64],
+    at: Position,
+    word: u64,
+    parent: NodeId,
+    room: usize,
+) -> Sought
     requires { ⌜ (memoryOk d (length (now mem)) ≡ true) × (0 < min (at .left) (d .limits .nodes)) ⌝ }
+    ensures { λ r. ⌜ r ≡ seekUnder room (decode d (now (mem .entry))) at word (some (wordOf parent)) ⌝ }
+{
+    if memory::read::resolves(d, mem, parent) {
+        return seek_listed(d, mem, at, word, parent, room);
+    }
+    Sought::End
+}
+
+// One turn, from a node that resolves.
+fn seek(d: Document, mem: &[u64], at: Position, word: u64, room: usize) -> Sought
+    requires { ⌜ (memoryOk d (length (now mem)) ≡ true) × (0 < min (at .left) (d .limits .nodes)) × (resolves (decode d (now mem)) word ≡ true) ⌝ }
     ensures { λ r. ⌜ r ≡ seek room (decode d (now (mem .entry))) at word ⌝ }
 {
     if word == at.zone {
         return Sought::End;
     }
-    match parent_shown(d, mem, word) {
+    match live_shown_parent(d, mem, slots::handle::id_of(word)) {
         Parent::None => Sought::End,
-        Parent::Of(id) => seek_under(d, mem, at, word, slots::handle::word_of(id), room),
+        Parent::Of(parent) => seek_under(d, mem, at, word, parent, room),
     }
 }
 
-// The node that follows another and all that is below it; the slots made are turns enough, and as many entries are room enough for the lists on the way up.
+// The node that follows another, which resolves, and all that is below it; the slots made are turns enough, and as many entries are room enough for the
+// lists on the way up.
 fn following(d: Document, mem: &[u64], at: Position, from: u64) -> Walked
-    requires { ⌜ (memoryOk d (length (now mem)) ≡ true) × (0 < min (at .left) (d .limits .nodes)) ⌝ }
+    requires { ⌜ (memoryOk d (length (now mem)) ≡ true) × (0 < min (at .left) (d .limits .nodes)) × (resolves (decode d (now mem)) from ≡ true) ⌝ }
     ensures { λ r. ⌜ r ≡ following (slotsMade d) (slotsMade d) (decode d (now (mem .entry))) at from ⌝ }
 {
     let made = memory::read::made(d);
@@ -161,13 +186,13 @@ fn following(d: Document, mem: &[u64], at: Position, from: u64) -> Walked
     Walked::End
 }
 
-// The first child of the node listed last, or else the node that follows.
-fn successor(d: Document, mem: &[u64], at: Position) -> Walked
-    requires { ⌜ (memoryOk d (length (now mem)) ≡ true) × (0 < min (at .left) (d .limits .nodes)) ⌝ }
+// The first child of the node listed last, which resolves, or else the node that follows.
+fn successor(d: Document, mem: &[u64], at: Position, id: NodeId) -> Walked
+    requires { ⌜ (memoryOk d (length (now mem)) ≡ true) × (0 < min (at .left) (d .limits .nodes)) × (id ≡ idOf (at .node)) × (resolves (decode d (now mem)) (wordOf id) ≡ true) ⌝ }
     ensures { λ r. ⌜ r ≡ successor (decode d (now (mem .entry))) at ⌝ }
 {
     let node = at.node;
-    let block = shown_block(d, mem, slots::handle::id_of(node), Arena::Children);
+    let block = live_shown_block(d, mem, id, Arena::Children);
     if 0 < block.len {
         return visit_entry(d, mem, at, node, block, 0);
     }
@@ -182,8 +207,9 @@ pub fn step(d: Document, mem: &[u64], at: Position) -> Walked
     if words::least(at.left, l.nodes) == 0 {
         return Walked::End;
     }
-    if memory::read::resolves(d, mem, slots::handle::id_of(at.node)) {
-        return successor(d, mem, at);
+    let id = slots::handle::id_of(at.node);
+    if memory::read::resolves(d, mem, id) {
+        return successor(d, mem, at, id);
     }
     Walked::End
 }

@@ -8,7 +8,7 @@ ghost use Rattle.words.specs.Lists.{find};
 ghost use Rattle.blocks.specs.Arena.{block, listOf};
 ghost use Rattle.slots.specs.Handles.{wordOf};
 ghost use Rattle.model.specs.Kinds.{children};
-ghost use Rattle.model.specs.Doc.{shownBlock, showsElement};
+ghost use Rattle.model.specs.Doc.{resolves, shownBlock, showsElement};
 ghost use Rattle.model.specs.Calls.{node};
 ghost use Rattle.memory.specs.Layout.{whichOf, entriesOf, memoryOk};
 ghost use Rattle.memory.specs.Decode.{blockOf, handleOf, arenaIn, decode};
@@ -32,28 +32,44 @@ fn within(range: Range, used: usize) -> Range
     }
 }
 
-// The block of a node's list as it is shown: attributes and namespaces only of an element.
+// The block of a node's list as it is shown, of a node that resolves: attributes and namespaces only of an element.
+pub fn live_shown_block(d: Document, mem: &[u64], id: NodeId, arena: Arena) -> Range
+    requires { ⌜ (memoryOk d (length (now mem)) ≡ true) × (resolves (decode d (now mem)) (wordOf id) ≡ true) ⌝ }
+    ensures { λ r. ⌜ blockOf r ≡ shownBlock (decode d (now (mem .entry))) (whichOf arena) (wordOf id) ⌝ }
+{
+    let index = id.index;
+    let block = memory::fields::live_block(d, mem, index as usize, arena);
+    within(block, memory::read::arena_used(d, arena))
+}
+
+// The same of any handle.
 pub fn shown_block(d: Document, mem: &[u64], id: NodeId, arena: Arena) -> Range
     requires { ⌜ memoryOk d (length (now mem)) ≡ true ⌝ }
     ensures { λ r. ⌜ blockOf r ≡ shownBlock (decode d (now (mem .entry))) (whichOf arena) (wordOf id) ⌝ }
 {
     if memory::read::resolves(d, mem, id) {
-        let index = id.index;
-        let block = memory::fields::live_block(d, mem, index as usize, arena);
-        within(block, memory::read::arena_used(d, arena))
+        live_shown_block(d, mem, id, arena)
     } else {
         Range { start: 0, len: 0 }
     }
 }
 
-// The parent of a node that resolves.
+// The parent as it is shown, of a node that resolves.
+pub fn live_shown_parent(d: Document, mem: &[u64], id: NodeId) -> Parent
+    requires { ⌜ (memoryOk d (length (now mem)) ≡ true) × (resolves (decode d (now mem)) (wordOf id) ≡ true) ⌝ }
+    ensures { λ r. ⌜ handleOf r ≡ parentShown (decode d (now (mem .entry))) (wordOf id) ⌝ }
+{
+    let index = id.index;
+    memory::fields::live_parent(d, mem, index as usize)
+}
+
+// The same of any handle.
 pub fn shown_parent(d: Document, mem: &[u64], id: NodeId) -> Parent
     requires { ⌜ memoryOk d (length (now mem)) ≡ true ⌝ }
     ensures { λ r. ⌜ handleOf r ≡ parentShown (decode d (now (mem .entry))) (wordOf id) ⌝ }
 {
     if memory::read::resolves(d, mem, id) {
-        let index = id.index;
-        return memory::fields::live_parent(d, mem, index as usize);
+        return live_shown_parent(d, mem, id);
     }
     Parent::None
 }

@@ -1,6 +1,7 @@
 -- `descendants::step::step` meets its contract.
 -- Assumes nothing.
-use mathlib.Core.Path.{refl}
+use mathlib.Core.Path.{refl, sym, _∙_}
+use native.Mathlib.Omega.{arith}
 use Rattle.slots.specs.Handles.{idOf}
 use Rattle.descendants.proofs.Stepping.{next-none, next-on, next-stale}
 use borrow.Author.Needs.{needs}
@@ -23,7 +24,8 @@ resolves-requires : tie.Need-resolves-requires
 resolves-requires c κs = search needs
 
 successor-requires : tie.Need-successor-requires
-successor-requires c κs = search needs
+successor-requires c κs =
+    (c .before .before .before .before .before .before .before .pre, omega arith, c .before .before .id-of .ensures, sym (c .before .resolves .ensures) ∙ c .if2 .taken)
 
 returns-2 : tie.Need-returns-2
 returns-2 c =
