@@ -81,7 +81,7 @@ following-tells (suc f) room d p x = go (λ q rest. following-tells f rest d p q
         let k : ℕ = hintedIndex l x (hintFor (p .hints) (length l)) in
         under ih q l k (resolves d q && leb (length l) room) (ltb (suc k) (length l))
 
-next-tells : (d : Doc) (p : Position) → Tells d p (next d p)
+pub next-tells : (d : Doc) (p : Position) → Tells d p (next d p)
 next-tells d p = go (ltb 0 (min (p .left) (d .limits .nodes)) && resolves d (p .node)) (ltb 0 (length l))
   where
     l : List ℕ
@@ -185,7 +185,7 @@ module _ (d : Document) (mem : List ℕ) (ok : memoryOk d (length mem) ≡ true)
 
 -- ---- a stale start
 
-from-stale : (d : Doc) (h : ℕ) → resolves d h ≡ false → (n : ℕ) → listFrom n d (start (d .limits .nodes) h) ≡ []
+pub from-stale : (d : Doc) (h : ℕ) → resolves d h ≡ false → (n : ℕ) → listFrom n d (start (d .limits .nodes) h) ≡ []
 from-stale d h r zero = refl
 from-stale d h r (suc n) =
     ap (λ (b : Bool). listed (λ q. listFrom n d q) (cond b (successor d (start (d .limits .nodes) h)) End)) (both (ltb 0 (min (d .limits .nodes) (d .limits .nodes))) (resolves d h) r)

@@ -23,7 +23,7 @@ use Rattle.slots.specs.Handles.{wordOf, idOf}
 use Rattle.slots.specs.declared.NodeId.{NodeId}
 use Rattle.slots.proofs.Handles.{wordOf-idOf}
 use Rattle.model.specs.Kinds.{children}
-use Rattle.model.specs.Doc.{Doc, resolves, parentIn, parentAt, shownBlock, shownList, anyOption}
+use Rattle.model.specs.Doc.{Doc, resolves, shownBlock, shownList, anyOption}
 use Rattle.memory.specs.declared.layout.Document.{Document}
 use Rattle.memory.specs.Layout.{memoryOk, limitsOf, entriesOf, arenaAt}
 use Rattle.memory.specs.Decode.{arenaIn, slotsMade, decode}

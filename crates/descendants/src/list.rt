@@ -5,20 +5,22 @@ ghost use Prim.Native.Nat.{_≤_};
 ghost use lib.ListN.{length};
 ghost use Rattle.words.specs.Parts.{put};
 ghost use Rattle.slots.specs.Handles.{wordOf};
+ghost use Rattle.model.specs.Doc.{resolves};
 ghost use Rattle.memory.specs.Layout.{memoryOk};
 ghost use Rattle.memory.specs.Decode.{decode};
 ghost use Rattle.descendants.specs.Walking.{walked};
 ghost use Rattle.descendants.specs.Contract.{countBelow, writtenBelow};
 use crate::position::Walked;
 use crate::position::start;
-use crate::step::step;
+use crate::step::successor;
 use memory::layout::Document;
 use model::Refusal;
 use reading::answers::NodesAnswer;
 use slots::NodeId;
 
-fn write_below(d: Document, mem: &[u64], zone: u64, out: &mut [u64]) -> usize
-    requires { ⌜ (memoryOk d (length (now mem)) ≡ true) × (d .limits .nodes ≤ length (now out)) ⌝ }
+// Of a node that resolves; so does each node listed, and no step tests the one before it again.
+fn write_live(d: Document, mem: &[u64], zone: u64, out: &mut [u64]) -> usize
+    requires { ⌜ (memoryOk d (length (now mem)) ≡ true) × (d .limits .nodes ≤ length (now out)) × (resolves (decode d (now mem)) zone ≡ true) ⌝ }
     ensures { λ r. ⌜ r ≡ length (walked (decode d (now (mem .entry))) zone) ⌝ }
     ensures { λ _. ⌜ now (out .exit) ≡ put 0 (walked (decode d (now (mem .entry))) zone) (now (out .entry)) ⌝ }
 {
@@ -27,7 +29,7 @@ fn write_below(d: Document, mem: &[u64], zone: u64, out: &mut [u64]) -> usize
     let mut at = start(nodes, zone);
     let mut count = 0;
     while count < nodes {
-        match step(d, mem, at) {
+        match successor(d, mem, at, slots::handle::id_of(at.node)) {
             Walked::End => return count,
             Walked::At(next) => {
                 out[count] = next.node;
@@ -39,12 +41,23 @@ fn write_below(d: Document, mem: &[u64], zone: u64, out: &mut [u64]) -> usize
     count
 }
 
-// Rules out a word written past the last handle.
+fn write_below(d: Document, mem: &[u64], id: NodeId, out: &mut [u64]) -> usize
+    requires { ⌜ (memoryOk d (length (now mem)) ≡ true) × (d .limits .nodes ≤ length (now out)) ⌝ }
+    ensures { λ r. ⌜ r ≡ length (walked (decode d (now (mem .entry))) (wordOf id)) ⌝ }
+    ensures { λ _. ⌜ now (out .exit) ≡ put 0 (walked (decode d (now (mem .entry))) (wordOf id)) (now (out .entry)) ⌝ }
+{
+    if memory::read::resolves(d, mem, id) {
+        return write_live(d, mem, slots::handle::word_of(id), out);
+    }
+    0
+}
+
+// Rules out a word written past the last handle, and the node itself among them.
 pub fn list_below(d: Document, mem: &[u64], id: NodeId, out: &mut [u64]) -> NodesAnswer
     ensures { λ r. ⌜ (r ≡ countBelow d (now (mem .entry)) (wordOf id) (now (out .entry))) × (now (out .exit) ≡ writtenBelow d (now (mem .entry)) (wordOf id) (now (out .entry))) ⌝ }
 {
     if reading::nodes::nodes_ok(d, mem.len(), out.len()) {
-        NodesAnswer::Count(write_below(d, mem, slots::handle::word_of(id), out))
+        NodesAnswer::Count(write_below(d, mem, id, out))
     } else {
         NodesAnswer::Refused(Refusal::BadBuffers)
     }

@@ -187,7 +187,7 @@ fn following(d: Document, mem: &[u64], at: Position, from: u64) -> Walked
 }
 
 // The first child of the node listed last, which resolves, or else the node that follows.
-fn successor(d: Document, mem: &[u64], at: Position, id: NodeId) -> Walked
+pub fn successor(d: Document, mem: &[u64], at: Position, id: NodeId) -> Walked
     requires { ⌜ (memoryOk d (length (now mem)) ≡ true) × (0 < min (at .left) (d .limits .nodes)) × (id ≡ idOf (at .node)) × (resolves (decode d (now mem)) (wordOf id) ≡ true) ⌝ }
     ensures { λ r. ⌜ r ≡ successor (decode d (now (mem .entry))) at ⌝ }
 {

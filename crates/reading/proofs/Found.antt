@@ -18,7 +18,7 @@ use Rattle.texts.specs.Pool.{Pool}
 use Rattle.names.specs.Table.{Name}
 use Rattle.model.specs.Kinds.{Which, isElement}
 use Rattle.model.specs.Doc.{generationAt, liveSlot, resolves, kindIn, kindAt, parentIn, parentAt, rangeIn, showsElement}
-use Rattle.model.specs.Calls.{Answered, Call, refused, node, step, parent-of}
+use Rattle.model.specs.Calls.{Answered, Call, refused, step}
 use Rattle.memory.specs.declared.layout.Document.{Document}
 use Rattle.memory.specs.Layout.{memoryOk}
 use Rattle.memory.specs.Decode.{kindOf, handleOf, rangeOf, slotsMade, resolvedIn, poolIn, namesIn, lengthsAdd, decodeWith, decode}

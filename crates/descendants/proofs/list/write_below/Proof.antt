@@ -1,94 +1,38 @@
--- `descendants::list::write_below` meets its contract. The invariant: what is written, and what the steps from here on list, are the whole walk.
+-- `descendants::list::write_below` meets its contract.
 -- Assumes nothing.
-use mathlib.Core.Path.{_≡_, refl, sym, ap}
-use Prim.Native.Nat.{_-_, _≤_}
-use native.Mathlib.Omega.{arith}
-use lib.ListN.{length}
-use borrow.Author.Needs.{needs}
+use mathlib.Core.Path.{sym, ap, _∙_}
+use Rattle.slots.specs.Handles.{wordOf}
+use Rattle.model.specs.Doc.{resolves}
 use Rattle.memory.specs.Decode.{decode}
-use Rattle.descendants.specs.Walking.{listFrom, walked}
-use Rattle.descendants.proofs.Listing.{Listing, listing-start, listing-full, listing-ends, listing-turn}
+use Rattle.descendants.proofs.Listing.{stale-written, same-written}
+use borrow.Author.Needs.{needs}
 use Rattle.descendants.proofs.list.write_below.Statement.{statement}
 use Rattle.descendants.proofs.list.write_below.Tie as tie
 
-abbrev Inv-loop : tie.InvT-loop
-Inv-loop d mem zone out₀ nodes at₀ count₀ out at count =
-    (count ≤ nodes) × (length out ≡ length out₀) × Listing (d .limits .nodes) (decode d mem) (walked (decode d mem) zone) out₀ at count out
+resolves-requires : tie.Need-resolves-requires
+resolves-requires c κs = search needs
 
-abbrev μ-loop : tie.MeasureT-loop
-μ-loop d mem zone out₀ nodes at₀ count₀ out at count = nodes - count
+word-of-requires : tie.Need-word-of-requires
+word-of-requires c κs = search needs
 
-start-requires : tie.Need-start-requires Inv-loop μ-loop
-start-requires c κs = search needs
+write-live-requires : tie.Need-write-live-requires
+write-live-requires c κs =
+    let s = c .before .before .before .before .before .before in
+    let a = s .args in
+    (s .pre .0, s .pre .1, ap (resolves (decode (a .d) (a .mem .now))) (c .before .word-of .ensures) ∙ sym (c .before .before .before .resolves .ensures) ∙ c .before .before .if1 .taken)
 
-loop-holds : tie.Need-loop-holds Inv-loop μ-loop
-loop-holds c =
-    let a = c .before .before .before .before .args in
-    (omega arith, refl, listing-start (a .d .limits .nodes) (decode (a .d) (a .mem .now)) (walked (decode (a .d) (a .mem .now)) (a .zone)) (a .out .now) _ (ap (listFrom (a .d .limits .nodes) (decode (a .d) (a .mem .now))) (sym (c .start .ensures))))
-
-step-requires : tie.Need-step-requires Inv-loop μ-loop
-step-requires c κs = search needs
-
-enum-told : tie.Need-enum-told Inv-loop μ-loop
-enum-told c = search needs
-
-same-length : tie.Need-same-length Inv-loop μ-loop
+same-length : tie.Need-same-length
 same-length c = search needs
 
-returns : tie.Need-returns Inv-loop μ-loop
+returns : tie.Need-returns
 returns c =
     let a = c .before .before .before .before .before .before .before .before .before .args in
-    let w = c .before .before .before .before .loop in
-    listing-ends (a .d .limits .nodes) (decode (a .d) (a .mem .now)) (walked (decode (a .d) (a .mem .now)) (a .zone)) (a .out .now) (w .inv .2) (omega arith) _ (c .before .before .step .ensures) (c .enum-told .given .1)
+    same-written (decode (a .d) (a .mem .now)) (wordOf (a .id)) _ (c .before .before .before .before .word-of .ensures) _ (a .out .now) _ (c .before .before .write-live .ensures)
 
-enum-known-next : tie.Need-enum-known-next Inv-loop μ-loop
-enum-known-next c = search needs
-
-mul-out : tie.Need-mul-out Inv-loop μ-loop
-mul-out c = search needs
-
-slice-write-out : tie.Need-slice-write-out Inv-loop μ-loop
-slice-write-out c = search needs
-
-add-count : tie.Need-add-count Inv-loop μ-loop
-add-count c = search needs
-
-loop-less : tie.Need-loop-less Inv-loop μ-loop
-loop-less c = omega arith
-
-loop-again : tie.Need-loop-again Inv-loop μ-loop
-loop-again c =
-    let s = c .before .before .before .before .before .before .before .before .before .before in
-    let a = s .args in
-    let w = c .before .before .before .before .before .loop in
-    (search needs, search needs, listing-turn (a .d .limits .nodes) (decode (a .d) (a .mem .now)) (walked (decode (a .d) (a .mem .now)) (a .zone)) (a .out .now) (w .inv .2) (omega arith) _ (c .before .before .before .step .ensures) _ (c .before .next .given .1) (s .pre .1))
-
-same-length-2 : tie.Need-same-length-2 Inv-loop μ-loop
-same-length-2 c = search needs
-
-returns-2 : tie.Need-returns-2 Inv-loop μ-loop
+returns-2 : tie.Need-returns-2
 returns-2 c =
-    let a = c .before .before .before .before .before .before .args in
-    let w = c .before .loop in
-    listing-full (a .d .limits .nodes) (decode (a .d) (a .mem .now)) (walked (decode (a .d) (a .mem .now)) (a .zone)) (a .out .now) (w .inv .2) (omega arith)
+    let a = c .before .before .before .before .args in
+    stale-written (decode (a .d) (a .mem .now)) (wordOf (a .id)) _ (c .before .resolves .ensures) (c .if1 .left) (a .out .now)
 
 pub write-below-spec : {M : Type 1} → statement M
-write-below-spec =
-    tie.close
-    (tie.spec
-    Inv-loop
-    μ-loop
-    start-requires
-    loop-holds
-    step-requires
-    enum-told
-    same-length
-    returns
-    enum-known-next
-    mul-out
-    slice-write-out
-    add-count
-    loop-less
-    loop-again
-    same-length-2
-    returns-2)
+write-below-spec = tie.close (tie.spec resolves-requires word-of-requires write-live-requires same-length returns returns-2)

@@ -9,7 +9,6 @@ use Rattle.model.specs.Doc.{resolves}
 use Rattle.memory.specs.Decode.{blockOf, decode}
 use Rattle.reading.proofs.Listed.{shown-inside}
 use Rattle.descendants.proofs.Stepping.{successor-child, successor-following}
-use borrow.Author.Needs.{needs}
 use Rattle.descendants.proofs.step.successor.Statement.{statement}
 use Rattle.descendants.proofs.step.successor.Tie as tie
 

@@ -1,6 +1,6 @@
 -- `reading::shown::live_shown_block` meets its contract.
 -- Assumes nothing.
-use mathlib.Core.Path.{refl, sym}
+use mathlib.Core.Path.{refl}
 use native.Mathlib.Omega.{arith}
 use Rattle.memory.specs.Layout.{whichOf}
 use Rattle.memory.specs.Decode.{blockOf}
