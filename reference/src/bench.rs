@@ -1,6 +1,7 @@
 //! The benchmark: the port's static library beside the Rust, on the same registers with the same calls, and the floor of an editing call: clearing the scratch and reading the words in
 //! use once.
 
+mod entries;
 mod measure;
 mod plot;
 mod reading;

@@ -27,12 +27,13 @@ pub(super) fn tables(all: &[Figures]) -> String {
 }
 
 pub(super) fn walks(all: &Walks) -> String {
-    let mut out =
-        String::from("\nNanoseconds for each node that a walk lists; in brackets the multiple of the Rust's.\n\n");
-    out.push_str("| | Rust | port, step by step | port, all at once |\n|---|---:|---:|---:|\n");
-    for Walk { name, rust, steps, list } in &all.sound {
+    let mut out = String::from(
+        "\nFor each node that a walk lists: entries of lists read, and nanoseconds; in brackets the multiple of the Rust's.\n\n",
+    );
+    out.push_str("| | entries read | Rust | port, step by step | port, all at once |\n|---|---:|---:|---:|---:|\n");
+    for Walk { name, entries, rust, steps, list } in &all.sound {
         let cell = |time: f64| format!("{time:.1} ({:.1})", time / rust);
-        writeln!(out, "| {name} | {rust:.1} | {} | {} |", cell(*steps), cell(*list))
+        writeln!(out, "| {name} | {entries:.1} | {rust:.1} | {} | {} |", cell(*steps), cell(*list))
             .expect("a String takes everything");
     }
     out.push_str("\nWalks in damaged memory, beside the two in sound memory.\n\n");

@@ -1,5 +1,6 @@
 //! Times of walks under the Root.
 
+use super::entries::entries_read;
 use super::measure::{least, since};
 use super::shapes::{FLAT, HINTS, SHAPES, Shape, again_behind_itself, each_below_the_other, laid_over, sought_in_vain};
 use crate::port::{Port, lent};
@@ -10,9 +11,10 @@ use std::time::Instant;
 
 const ROUNDS: usize = 9;
 
-/// Nanoseconds a node: the Rust's iterator, the port's, and the port's list.
+/// Entries of lists that the port's walk reads for each node, and nanoseconds a node: the Rust's iterator, the port's, and the port's list.
 pub(super) struct Walk {
     pub(super) name: &'static str,
+    pub(super) entries: f64,
     pub(super) rust: f64,
     pub(super) steps: f64,
     pub(super) list: f64,
@@ -42,7 +44,9 @@ fn id(index: u32) -> NodeId {
 fn walk(shape: &Shape) -> Result<Walk, String> {
     let (document, mut port) = shape.built();
     let port = port.document();
-    let nodes = same_nodes(&document, &port).ok_or_else(|| format!("{}: the walks differ", shape.name))? as f64;
+    let differ = || format!("{}: the walks differ", shape.name);
+    let nodes = same_nodes(&document, &port).ok_or_else(differ)? as f64;
+    let entries = entries_read(&document, id(0)).ok_or_else(differ)?;
     let rust = least(ROUNDS, || {
         let start = Instant::now();
         black_box(black_box(&document).descendants_of(id(0)).map(|id| u64::from(id.index)).sum::<u64>());
@@ -60,7 +64,7 @@ fn walk(shape: &Shape) -> Result<Walk, String> {
         black_box(list.into_iter().flatten().map(|id| u64::from(id.index)).sum::<u64>());
         since(start) / nodes
     });
-    Ok(Walk { name: shape.name, rust, steps, list })
+    Ok(Walk { name: shape.name, entries, rust, steps, list })
 }
 
 /// How many nodes each of the three lists, which must be the same.
