@@ -16,14 +16,13 @@ use Rattle.words.specs.Lists.{indexOf}
 use Rattle.words.proofs.Tests.{and-left}
 use Rattle.words.proofs.Lists.{length-tabulate, indexOf-le}
 use Rattle.words.proofs.Parts.{length-part, getD-part, lent}
-use Rattle.reading.specs.Contract.{parentShown}
 use Rattle.reading.proofs.Listed.{block-lent, shown-inside}
 use Rattle.blocks.specs.Arena.{Block, listOf}
 use Rattle.slots.specs.Handles.{wordOf, idOf}
 use Rattle.slots.specs.declared.NodeId.{NodeId}
 use Rattle.slots.proofs.Handles.{wordOf-idOf}
 use Rattle.model.specs.Kinds.{children}
-use Rattle.model.specs.Doc.{Doc, resolves, shownBlock, shownList, anyOption}
+use Rattle.model.specs.Doc.{Doc, resolves, shownBlock, shownList, shownParent, anyOption}
 use Rattle.memory.specs.declared.layout.Document.{Document}
 use Rattle.memory.specs.Layout.{memoryOk, limitsOf, entriesOf, arenaAt}
 use Rattle.memory.specs.Decode.{arenaIn, slotsMade, decode}
@@ -151,8 +150,8 @@ same-word : (id : NodeId) (word : ℕ) → id ≡ idOf word → wordOf id ≡ wo
 same-word id word i = ap wordOf i ∙ wordOf-idOf word
 
 -- a parent compared with another handle
-pub named-parent : (D : Doc) (q y : ℕ) (id : NodeId) → id ≡ idOf y → (o : Option ℕ) → o ≡ parentShown D (wordOf id) → anyOption (eqb q) o ≡ namesParent D q y
-named-parent D q y id i o e = ap (anyOption (eqb q)) (e ∙ ap (parentShown D) (same-word id y i))
+pub named-parent : (D : Doc) (q y : ℕ) (id : NodeId) → id ≡ idOf y → (o : Option ℕ) → o ≡ shownParent D (wordOf id) → anyOption (eqb q) o ≡ namesParent D q y
+named-parent D q y id i o e = ap (anyOption (eqb q)) (e ∙ ap (shownParent D) (same-word id y i))
 
 -- ---- one turn
 
@@ -162,13 +161,13 @@ module _ (D : Doc) (p : Position) (x room : ℕ) where
   seek-zone e = rw (eq-eqb x (p .zone) e)
 
   module _ (n : x ≢ p .zone) (id : NodeId) (i : id ≡ idOf x) where
-    pub seek-top : none ≡ parentShown D (wordOf id) → seeks.End ≡ seek room D p x
+    pub seek-top : none ≡ shownParent D (wordOf id) → seeks.End ≡ seek room D p x
     unfolding seek
-    seek-top e = rw (ne-eqb x (p .zone) n) (ap (seekUnder room D p x) (e ∙ ap (parentShown D) (same-word id x i)))
+    seek-top e = rw (ne-eqb x (p .zone) n) (ap (seekUnder room D p x) (e ∙ ap (shownParent D) (same-word id x i)))
 
-    pub seek-up : (q : ℕ) → some q ≡ parentShown D (wordOf id) → (r : Sought) → r ≡ seekUnder room D p x (some q) → r ≡ seek room D p x
+    pub seek-up : (q : ℕ) → some q ≡ shownParent D (wordOf id) → (r : Sought) → r ≡ seekUnder room D p x (some q) → r ≡ seek room D p x
     unfolding seek
-    seek-up q e r f = rw (ne-eqb x (p .zone) n) (f ∙ ap (seekUnder room D p x) (e ∙ ap (parentShown D) (same-word id x i)))
+    seek-up q e r f = rw (ne-eqb x (p .zone) n) (f ∙ ap (seekUnder room D p x) (e ∙ ap (shownParent D) (same-word id x i)))
 
   -- a turn that goes further up goes to a node that resolves
   pub above-resolves : (w : Sought) → w ≡ seek room D p x → (q r : ℕ) → w ≡ seeks.Above q r → resolves D q ≡ true

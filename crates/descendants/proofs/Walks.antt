@@ -13,9 +13,8 @@ use lib.Dec.{eqb, ltb}
 use lib.ListN.{length, getD, drop, length-map, length-append}
 use Rattle.words.specs.Lists.{indexOf, joined, countOf}
 use Rattle.model.specs.Kinds.{children}
-use Rattle.model.specs.Doc.{Doc, resolves, shownList, mapOption, anyOption}
+use Rattle.model.specs.Doc.{Doc, resolves, shownList, shownParent, mapOption, anyOption}
 use Rattle.model.specs.Edits.{walk}
-use Rattle.reading.specs.Contract.{parentShown}
 use Rattle.model.specs.Tree.{Tree}
 use Rattle.model.proofs.Wf.{Distinct, Ends, WF}
 use Rattle.model.proofs.Sim.{Sim}
@@ -77,7 +76,7 @@ module _ {d : Doc} {t : Tree} {hs : ℕ → ℕ} (S : Sim d t hs) (W : WF t) (z 
   kid : (x y : ℕ) → t .live x ≡ true → List·Memᴰ y (kids x) → (t .live y ≡ true) × (t .parent y ≡ some x)
   kid x y lx m = let o = W .downward children x y lx m in (o .0, o .1)
 
-  parent-shown : (x q : ℕ) → t .live x ≡ true → t .parent x ≡ some q → parentShown d (hs x) ≡ some (hs q)
+  parent-shown : (x q : ℕ) → t .live x ≡ true → t .parent x ≡ some q → shownParent d (hs x) ≡ some (hs q)
   parent-shown x q lx e = rw (resolves-live d t hs S x lx) (S .parent x lx ∙ ap (mapOption hs) e)
 
   -- to index k of a live node's children

@@ -7,9 +7,8 @@ use lib.Dec.{eqb, leb, ltb}
 use lib.ListN.{length, getD}
 use Rattle.words.specs.Lists.{indexOf, joined}
 use Rattle.model.specs.Kinds.{children}
-use Rattle.model.specs.Doc.{Doc, resolves, shownList, anyOption}
+use Rattle.model.specs.Doc.{Doc, resolves, shownList, shownParent, anyOption}
 use Rattle.model.specs.Tree.{Tree}
-use Rattle.reading.specs.Contract.{parentShown}
 use Rattle.descendants.specs.declared.position.Hints.{Hints}
 use Rattle.descendants.specs.declared.position.Position.{Position}
 use Rattle.descendants.specs.declared.position.Walked.{Walked}
@@ -48,7 +47,7 @@ hintedIndex l x k = cond (ltb k (length l) && eqb x (getD l k 0)) k (indexOf (eq
 
 -- y resolves, and q is its parent
 abbrev pub namesParent : Doc → ℕ → ℕ → Bool
-namesParent d q y = anyOption (eqb q) (parentShown d y)
+namesParent d q y = anyOption (eqb q) (shownParent d y)
 
 -- the next node is the one at index k of q's list l; a walk ends at one that names another parent, which only damaged memory has
 abbrev pub visitEntry : Doc → Position → ℕ → List ℕ → ℕ → Walked
@@ -74,7 +73,7 @@ seekUnder room d p x (some q) =
 
 -- the parent of a node below the zone
 abbrev pub parentBelow : Doc → Position → ℕ → Option ℕ
-parentBelow d p x = cond (eqb x (p .zone)) none (parentShown d x)
+parentBelow d p x = cond (eqb x (p .zone)) none (shownParent d x)
 
 unfoldable pub seek : ℕ → Doc → Position → ℕ → Sought
 seek room d p x = seekUnder room d p x (parentBelow d p x)

@@ -13,7 +13,7 @@ use Rattle.texts.specs.Pool.{Pool, storedSlot, stored, replacedSlot, replaced, 
 use Rattle.words.specs.Pieces.{sameBytes}
 use Rattle.names.specs.Table.{Name, name, sameName, numberOf, interned, nameAt, nameFits}
 use Rattle.model.specs.Kinds.{Kind, root, element, attribute, text, comment, namespace, instruction, Which, children, attributes, namespaces, isElement, isRoot, textOf, attributeName, prefixOf, replaceable, withText, mapKind}
-use Rattle.model.specs.Doc.{Doc, Limits, rootHandle, noKey, anyOption, isNone, isSome, orElse, resolves, kindAt, parentAt, rangeIn, listAt, shownBlock, shownList, showsElement, pairAt, bytesAt, viewAt, liveNodes, rootElement, onPath}
+use Rattle.model.specs.Doc.{Doc, Limits, rootHandle, noKey, anyOption, isNone, isSome, orElse, resolves, kindAt, parentAt, rangeIn, listAt, shownBlock, shownList, shownParent, showsElement, pairAt, bytesAt, viewAt, liveNodes, rootElement, onPath}
 use Rattle.model.specs.Edits.{nextHandle, born, attach, unhook, setKind, subtree, freeAll, renewOrder, rebuildArenas}
 use Rattle.model.specs.Arguments.{refuseIf, first}
 use Rattle.model.specs.Checks.{checkAppendElement, checkAppendText, checkAppendComment, checkAppendPi, checkSetText, checkSetAttribute, checkRemoveAttribute, checkDeclareNamespace, checkRemove, checkDetach, checkMove}
@@ -306,7 +306,7 @@ step document-order d = documentOrder d
 step compact d = answers (renewOrder (rebuildArenas d)) done
 step root-of d = answers d (made rootHandle)
 step (kind-of h) d = answers d (shownKind d h)
-step (parent-of h) d = answers d (node (cond (resolves d h) (parentAt d h) none))
+step (parent-of h) d = answers d (node (shownParent d h))
 step (children-of h) d = answers d (lists d children h)
 step root-element d = answers d (node (rootElement d))
 step (is-element h) d = answers d (truth (showsElement d h))

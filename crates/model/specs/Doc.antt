@@ -180,6 +180,10 @@ shownBlock d w h =
 abbrev pub shownList : Doc → Which → ℕ → List ℕ
 shownList d w h = listOf (d .arenas w) (shownBlock d w h)
 
+-- the parent as it is shown: none of a stale handle
+abbrev pub shownParent : Doc → ℕ → Option ℕ
+shownParent d h = cond (resolves d h) (parentAt d h) none
+
 -- the element among the Root's children
 abbrev pub showsElement : Doc → ℕ → Bool
 showsElement d h = resolves d h && isElement (kindAt d h)

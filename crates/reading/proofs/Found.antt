@@ -17,13 +17,13 @@ use Rattle.slots.proofs.Handles.{handleIndex-wordOf}
 use Rattle.texts.specs.Pool.{Pool}
 use Rattle.names.specs.Table.{Name}
 use Rattle.model.specs.Kinds.{Which, isElement}
-use Rattle.model.specs.Doc.{generationAt, liveSlot, resolves, kindIn, kindAt, parentIn, parentAt, rangeIn, showsElement}
+use Rattle.model.specs.Doc.{generationAt, liveSlot, resolves, kindIn, kindAt, parentIn, parentAt, rangeIn, shownParent, showsElement}
 use Rattle.model.specs.Calls.{Answered, Call, refused, step}
 use Rattle.memory.specs.declared.layout.Document.{Document}
 use Rattle.memory.specs.Layout.{memoryOk}
 use Rattle.memory.specs.Decode.{kindOf, handleOf, rangeOf, slotsMade, resolvedIn, poolIn, namesIn, lengthsAdd, decodeWith, decode}
 use Rattle.memory.proofs.Columns.{resolved-found, resolved-none, kind-found, parent-found, range-found}
-use Rattle.reading.specs.Contract.{reads, parentShown}
+use Rattle.reading.specs.Contract.{reads}
 
 module _ (d : Document) (mem : List ℕ) (ok : Bool) (e : ok ≡ memoryOk d (length mem)) where
   -- test 4
@@ -87,8 +87,8 @@ module _ (d : Document) (mem : List ℕ) (h : NodeId) (hi : h .index < 429496729
   pub element-stale : t ≡ false → false ≡ showsElement (decode d mem) (wordOf h)
   element-stale f = sym (rw (sym e ∙ f))
 
-  pub parent-shown : t ≡ true → (o : Option ℕ) → o ≡ parentIn (decode d mem) (h .index) → o ≡ parentShown (decode d mem) (wordOf h)
+  pub parent-shown : t ≡ true → (o : Option ℕ) → o ≡ parentIn (decode d mem) (h .index) → o ≡ shownParent (decode d mem) (wordOf h)
   parent-shown q o p = p ∙ ap (parentIn (decode d mem)) (sym (handleIndex-wordOf h hi)) ∙ sym (rw (sym e ∙ q))
 
-  pub parent-stale : t ≡ false → none ≡ parentShown (decode d mem) (wordOf h)
+  pub parent-stale : t ≡ false → none ≡ shownParent (decode d mem) (wordOf h)
   parent-stale f = sym (rw (sym e ∙ f))

@@ -1,14 +1,13 @@
 -- What a reading call promises, for every record, memory and argument: "They test 4 only", and show what the definitions show of the document.
 use mathlib.Core.Path.{_≡_}
 use mathlib.Core.Bool.{Bool, _&&_, cond}
-use mathlib.Core.Option.{Option, none}
 use mathlib.Core.List.{List}
 use Prim.Native.Nat.{ℕ}
 use lib.ListN.{length}
 use lib.Dec.{leb}
 use Rattle.words.specs.Parts.{put}
 use Rattle.model.specs.Kinds.{Which, children, attributes, namespaces}
-use Rattle.model.specs.Doc.{Doc, resolves, parentAt, liveNodes}
+use Rattle.model.specs.Doc.{liveNodes}
 use Rattle.model.specs.Calls.{Answered, Call, children-of, attribute-nodes, namespace-nodes, refused, step, nodes}
 use Rattle.memory.specs.declared.layout.Document.{Document}
 use Rattle.memory.specs.Layout.{memoryOk}
@@ -18,10 +17,6 @@ use Rattle.reading.specs.Answers.{ofNodes}
 
 unfoldable pub reads : Call → Document → List ℕ → Answered
 reads c d mem = cond (memoryOk d (length mem)) (step c (decode d mem) .answer) (refused 4)
-
--- the parent that is shown: none of a stale handle
-abbrev pub parentShown : Doc → ℕ → Option ℕ
-parentShown d h = cond (resolves d h) (parentAt d h) none
 
 -- the call that shows a list of a node
 abbrev pub listCall : Which → ℕ → Call

@@ -8,12 +8,11 @@ ghost use Rattle.words.specs.Lists.{find};
 ghost use Rattle.blocks.specs.Arena.{block, listOf};
 ghost use Rattle.slots.specs.Handles.{wordOf};
 ghost use Rattle.model.specs.Kinds.{children};
-ghost use Rattle.model.specs.Doc.{resolves, shownBlock, showsElement};
+ghost use Rattle.model.specs.Doc.{resolves, shownBlock, shownParent, showsElement};
 ghost use Rattle.model.specs.Calls.{node};
 ghost use Rattle.memory.specs.Layout.{whichOf, entriesOf, memoryOk};
 ghost use Rattle.memory.specs.Decode.{blockOf, handleOf, arenaIn, decode};
 ghost use Rattle.reading.specs.Answers.{ofNode};
-ghost use Rattle.reading.specs.Contract.{parentShown};
 use crate::answers::NodeAnswer;
 use memory::layout::Arena;
 use memory::layout::Document;
@@ -57,7 +56,7 @@ pub fn shown_block(d: Document, mem: &[u64], id: NodeId, arena: Arena) -> Range
 // The parent as it is shown, of a node that resolves.
 pub fn live_shown_parent(d: Document, mem: &[u64], id: NodeId) -> Parent
     requires { ⌜ (memoryOk d (length (now mem)) ≡ true) × (resolves (decode d (now mem)) (wordOf id) ≡ true) ⌝ }
-    ensures { λ r. ⌜ handleOf r ≡ parentShown (decode d (now (mem .entry))) (wordOf id) ⌝ }
+    ensures { λ r. ⌜ handleOf r ≡ shownParent (decode d (now (mem .entry))) (wordOf id) ⌝ }
 {
     let index = id.index;
     memory::fields::live_parent(d, mem, index as usize)
@@ -66,7 +65,7 @@ pub fn live_shown_parent(d: Document, mem: &[u64], id: NodeId) -> Parent
 // The same of any handle.
 pub fn shown_parent(d: Document, mem: &[u64], id: NodeId) -> Parent
     requires { ⌜ memoryOk d (length (now mem)) ≡ true ⌝ }
-    ensures { λ r. ⌜ handleOf r ≡ parentShown (decode d (now (mem .entry))) (wordOf id) ⌝ }
+    ensures { λ r. ⌜ handleOf r ≡ shownParent (decode d (now (mem .entry))) (wordOf id) ⌝ }
 {
     if memory::read::resolves(d, mem, id) {
         return live_shown_parent(d, mem, id);
