@@ -127,7 +127,8 @@ uint64_t oxml_remove_attribute(
     uint64_t *document, size_t document_len, uint64_t *memory, size_t memory_len, uint64_t *scratch, size_t scratch_len, uint64_t element,
     const uint8_t *ns, size_t ns_len, const uint8_t *local, size_t local_len, uint64_t *found, size_t found_len);
 
-/* The URI of a prefix, for which a node is made where the element has none; the handle of its node goes to made[0]. */
+/* The URI of a prefix, for which a node is made where the element has none; the handle of its node goes to made[0]. An empty URI undoes
+ * the default namespace, whose prefix is empty; with any other prefix it is refused, 2. */
 uint64_t oxml_declare_namespace(
     uint64_t *document, size_t document_len, uint64_t *memory, size_t memory_len, uint64_t *scratch, size_t scratch_len, uint64_t element,
     const uint8_t *prefix, size_t prefix_len, const uint8_t *uri, size_t uri_len, uint64_t *made, size_t made_len);

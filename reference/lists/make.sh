@@ -1,5 +1,6 @@
 #!/usr/bin/env bash
-# Makes the generated lists and the answers of all lists anew. examples, refusals, limits, either-order and year are written by hand.
+# Makes the generated lists and the answers of all lists here anew. examples, refusals, limits, either-order and year are written by hand,
+# and so are those of own/ with their answers.
 set -euo pipefail
 cd "$(dirname "$0")"
 programs=../target/release

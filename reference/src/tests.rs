@@ -3,4 +3,5 @@ mod generation;
 mod lines;
 mod lists;
 mod memory;
+mod prefixes;
 mod rules;

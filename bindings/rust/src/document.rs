@@ -66,7 +66,7 @@ impl<'m> Document<'m> {
     }
 }
 
-/// The answers are those of the source's methods; an absent namespace or prefix is empty.
+/// The answers are those of the source's methods, but for the differences that docs/DIFFERENCES.md lists; an absent namespace or prefix is empty.
 ///
 /// # Errors
 ///
@@ -185,6 +185,7 @@ impl Document<'_> {
         Refusal::check(status).map(|()| found[0] != 0)
     }
 
+    /// An empty URI undoes the default namespace; with a prefix it is refused, unlike in the source.
     pub fn declare_namespace(
         &mut self,
         element: NodeId,

@@ -96,6 +96,22 @@ fn attributes_and_namespaces_are_replaced_in_place() {
 }
 
 #[test]
+fn only_the_default_namespace_may_be_undone() {
+    with_document(|mut document| {
+        let root = document.root().unwrap();
+        let zone = document.append_element(root, NONE, "zone").unwrap();
+        assert_eq!(document.declare_namespace(zone, Some("w"), ""), Err(Refusal::InvalidName));
+        let declared = document.declare_namespace(zone, Some("w"), "urn:water").unwrap();
+        assert_eq!(document.declare_namespace(zone, Some("w"), ""), Err(Refusal::InvalidName));
+        let shown = document.kind(declared).unwrap();
+        assert!(matches!(shown, Some(NodeKind::Namespace { uri, .. }) if uri == b"urn:water"));
+        let default = document.declare_namespace(zone, NONE, "urn:water").unwrap();
+        assert_eq!(document.declare_namespace(zone, NONE, ""), Ok(default));
+        assert_eq!(document.namespace_nodes(zone), Ok(vec![declared, default]));
+    });
+}
+
+#[test]
 fn a_reused_slot_has_no_place_of_the_node_before() {
     with_document(|mut document| {
         let root = document.root().unwrap();

@@ -20,8 +20,8 @@ use Rattle.model.specs.Kinds.{attribute, namespace, Which, attributes, namespac
 use Rattle.model.specs.Doc.{Doc, isSome, generationAt, liveSlot, resolves, listAt, viewAt}
 use Rattle.model.specs.Edits.{nextHandle}
 use Rattle.model.specs.Rules.{Rules}
-use Rattle.model.specs.Arguments.{refuseIf, first, notUtf8, nameCheck, namespaceCheck, bindingCheck, prefixCheck, textCheck, isXmlns}
-use Rattle.model.specs.Checks.{anElement, isEmpty, checkSetAttribute, checkDeclareNamespace}
+use Rattle.model.specs.Arguments.{refuseIf, first, notUtf8, nameCheck, namespaceCheck, textCheck, isXmlns}
+use Rattle.model.specs.Checks.{anElement, isEmpty, checkSetAttribute, declarationCheck, checkDeclareNamespace}
 use Rattle.model.specs.Calls.{set-attribute, declare-namespace, done, made, Out, answers, isRefusal, guarded, step, fullUnless, textFits, twoFit, nameFitsIn, nodeFits, replacementFits, replaceableAt, withReplaced, withTwo, storedTwo, appended, hasName, hasPrefix, findAttribute, findNamespace, setAttributeFound, declareNamespaceFound}
 use Rattle.model.proofs.Guards.{first-zero}
 use Rattle.model.proofs.Membership.{find-some}
@@ -198,7 +198,7 @@ module _ (d : Document) (mem : List ℕ) (el : ℕ) (prefix uri : List ℕ) (a :
   declaring o = declareNamespaceFound o D₁ el prefix uri
 
   element-declared : checkDeclareNamespace prefix uri (viewAt (decode d mem) el) ≡ 0 → anElement (viewAt (decode d mem) el) ≡ 0
-  element-declared z = then-element D₁ el (notUtf8 (prefix ∷ uri ∷ [])) (first (prefixCheck prefix) (bindingCheck uri)) z
+  element-declared z = then-element D₁ el (notUtf8 (prefix ∷ uri ∷ [])) (declarationCheck prefix uri) z
 
   -- a new one
   module _ (q : findNamespace (decode d mem) el prefix ≡ none) where

@@ -89,15 +89,16 @@ pub fn root_texts() -> bool {
     both(accepted, refused)
 }
 
-// Example 11.
+// Example 11, its last case as document 02 (f) has it: only the default namespace may be undone.
 pub fn declarations() -> bool {
     let attributes = both(
         attribute_number(b"", b"xmlns") == 2,
         attribute_number(b"u", b"xmlns") == 0,
     );
-    let prefixes = both(
+    let prefixes = all(
         prefix_number(b"xml", b"u") == 2,
-        prefix_number(b"p", b"") == 0,
+        prefix_number(b"p", b"") == 2,
+        prefix_number(b"", b"") == 0,
     );
     both(attributes, prefixes)
 }

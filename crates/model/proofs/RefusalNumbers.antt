@@ -22,7 +22,7 @@ use Rattle.texts.specs.Pool.{slotsFor}
 use Rattle.blocks.specs.Arena.{Block, block}
 use lib.ListN.{length, getD}
 use Rattle.model.specs.Arguments.{refuseIf, first, isUtf8, notUtf8, nameCheck, namespaceCheck, bindingCheck, prefixCheck, textCheck, commentCheck, instructionCheck, spaceOnly, isXmlns}
-use Rattle.model.specs.Checks.{View, container, anElement, aChild, aText, textUnder, movedText, storedText, isEmpty, checkAppendElement, checkAppendText, checkAppendComment, checkAppendPi, checkSetText, checkRemove, checkMove}
+use Rattle.model.specs.Checks.{View, container, anElement, aChild, aText, textUnder, movedText, storedText, isEmpty, checkAppendElement, checkAppendText, checkAppendComment, checkAppendPi, checkSetText, checkRemove, checkMove, undeclaresPrefix}
 use Rattle.model.specs.Calls.{Answered, refused, done, made, truth, node, listed, everyNode, kindIs, nameIs, key, keys, Out, answers, guarded, fullUnless, step, setAttributeFound, declareNamespaceFound, removeAttributeFound, findAttribute, findNamespace, orderKey, keyOf, shownKind, appendOneText, moveTo, rootTaken, underRoot, nameFitsIn, textFits, twoFit, nodeFits, roomFits, replacementFits, replaceableAt}
 use Rattle.model.specs.Calls.{Call, append-element, append-text, append-comment, append-pi, set-text, set-attribute, remove-attribute, declare-namespace, remove, detach, reparent, insert-at, document-order, compact, root-of, kind-of, parent-of, children-of, root-element, is-element, name-of, attribute-nodes, namespace-nodes, nodes, order-key}
 
@@ -268,7 +268,8 @@ tested (remove-attribute e ns local) d =
 tested (declare-namespace e prefix uri) d =
     guarded-tested (Stale d (e ∷ [])) _ d _
     (first-other (notUtf8 (prefix ∷ uri ∷ [])) _ (utf8-other (prefix ∷ uri ∷ []))
-    (first-other (anElement (viewAt d e)) _ (element-other (viewAt d e) (stale d e)) (first-other (prefixCheck prefix) (bindingCheck uri) (prefix-other prefix) (binding-other uri))))
+    (first-other (anElement (viewAt d e)) _ (element-other (viewAt d e) (stale d e)) (first-other (prefixCheck prefix) _ (prefix-other prefix)
+    (first-other (bindingCheck uri) _ (binding-other uri) (refuse-other (undeclaresPrefix prefix uri) 2 (λ q. omega arith, λ q. omega arith, λ q. absurd (omega arith)))))))
     (declared-tested (Stale d (e ∷ [])) (findNamespace d e prefix) d e prefix uri)
 tested (remove h) d = guarded-tested (Stale d (h ∷ [])) _ d _ (remove-other (viewAt d h) (stale d h)) (tt {0})
 tested (detach h) d = guarded-tested (Stale d (h ∷ [])) _ d _ (child-other (viewAt d h) (stale d h)) (tt {0})

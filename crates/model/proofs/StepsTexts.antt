@@ -17,8 +17,8 @@ use Rattle.names.specs.Table.{Name, name, sameName, numberOf, interned}
 use Rattle.model.specs.Kinds.{Kind, root, element, attribute, text, comment, namespace, instruction, Which, children, attributes, namespaces, isElement, isRoot, owns, whichOf, textOf, attributeName, prefixOf, replaceable}
 use Rattle.model.specs.Doc.{Doc, viewAt, anyOption, mapOption, isSome, isNone, shownList}
 use Rattle.model.specs.Edits.{nextHandle}
-use Rattle.model.specs.Arguments.{first, refuseIf, notUtf8, namespaceCheck, textCheck, nameCheck, prefixCheck, bindingCheck, isXmlns}
-use Rattle.model.specs.Checks.{checkSetText, checkSetAttribute, checkDeclareNamespace, aText, anElement, textUnder, isEmpty}
+use Rattle.model.specs.Arguments.{first, refuseIf, notUtf8, namespaceCheck, textCheck, nameCheck, isXmlns}
+use Rattle.model.specs.Checks.{checkSetText, checkSetAttribute, declarationCheck, checkDeclareNamespace, aText, anElement, textUnder, isEmpty}
 use Rattle.model.specs.Calls.{Answered, made, done, step, answers, guarded, fullUnless, nodeFits, textFits, twoFit, nameFitsIn, replacementFits, replaceableAt, withReplaced, appended, withTwo, storedTwo, findAttribute, findNamespace, setAttributeFound, declareNamespaceFound, set-text, set-attribute, declare-namespace}
 use Rattle.model.specs.Calls as calls
 use Rattle.model.specs.Tree.{Tree, means, update}
@@ -223,7 +223,7 @@ module _ (d : Doc) (t : Tree) (hs : ℕ → ℕ) (S : Sim d t hs) (W : WF t) whe
       let u : tree.Out = tree.answers (tree.appended t namespaces e (namespace prefix uri)) (made (t .births)) in
       let check : ℕ = checkDeclareNamespace prefix uri (some (t .kind e)) in
       guarded-same d t hs S W check (declareNamespaceFound none d (hs e) prefix uri) u
-      (λ z. new-namespace prefix uri e le (element-passed (t .kind e) (first-zero (anElement (some (t .kind e))) (first (prefixCheck prefix) (bindingCheck uri)) (first-zero (notUtf8 (prefix ∷ uri ∷ [])) _ z .1) .0))
+      (λ z. new-namespace prefix uri e le (element-passed (t .kind e) (first-zero (anElement (some (t .kind e))) (declarationCheck prefix uri) (first-zero (notUtf8 (prefix ∷ uri ∷ [])) _ z .1) .0))
       (λ fit. told-nested check (twoFit d prefix uri && nodeFits d namespaces (hs e)) none o u refl (appended-births d t hs S W namespaces e (namespace prefix uri)) told z fit))
 
   pub step-declare-namespace : (prefix uri : List ℕ) (h : ℕ) → Told hs (declare-namespace h prefix uri) d t

@@ -74,9 +74,15 @@ checkSetAttribute ns local value node found =
 abbrev pub checkRemoveAttribute : List ℕ → List ℕ → View → ℕ
 checkRemoveAttribute ns local node = first (notUtf8 (ns ∷ local ∷ [])) (anElement node)
 
+-- (02, f) "InvalidName for a non-empty prefix with an empty URI, after the other URI checks": "only the default namespace may be undone"
+abbrev pub undeclaresPrefix : List ℕ → List ℕ → Bool
+undeclaresPrefix prefix uri = not (isEmpty prefix) && isEmpty uri
+
+abbrev pub declarationCheck : List ℕ → List ℕ → ℕ
+declarationCheck prefix uri = first (prefixCheck prefix) (first (bindingCheck uri) (refuseIf (undeclaresPrefix prefix uri) 2))
+
 abbrev pub checkDeclareNamespace : List ℕ → List ℕ → View → ℕ
-checkDeclareNamespace prefix uri node =
-    first (notUtf8 (prefix ∷ uri ∷ [])) (first (anElement node) (first (prefixCheck prefix) (bindingCheck uri)))
+checkDeclareNamespace prefix uri node = first (notUtf8 (prefix ∷ uri ∷ [])) (first (anElement node) (declarationCheck prefix uri))
 
 abbrev pub checkRemove : View → ℕ
 checkRemove none = 6

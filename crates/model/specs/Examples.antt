@@ -6,8 +6,8 @@ use mathlib.Core.List.{List, [], _∷_, map}
 use Prim.Native.Nat.{ℕ, _+_, _*_}
 use lib.ListN.{length, getD}
 use Rattle.blocks.specs.Arena.{Block, block, capOf}
-use Rattle.model.specs.Kinds.{Kind, Which, children, attributes, namespaces}
-use Rattle.model.specs.Doc.{Doc, Limits, fresh, handleWord, rootHandle, rangeIn, resolves, listIn}
+use Rattle.model.specs.Kinds.{Kind, namespace, Which, children, attributes, namespaces}
+use Rattle.model.specs.Doc.{Doc, Limits, fresh, handleWord, rootHandle, rangeIn, resolves, viewAt, listIn}
 use Rattle.model.specs.Edits.{subtree, up}
 use Rattle.model.specs.Arguments.{nameCheck}
 use Rattle.model.specs.Calls.{Call, append-element, append-text, append-comment, append-pi, set-text, set-attribute, remove-attribute, declare-namespace, remove, detach, reparent, insert-at, document-order, compact, children-of, attribute-nodes, order-key, Answer, Answered, refused, done, made, listed, keys, key, Run, run}
@@ -130,6 +130,17 @@ refusedNames = [] ∷ (49 ∷ 97 ∷ []) ∷ (97 ∷ 58 ∷ 98 ∷ []) ∷ (0xC3
 abbrev pub acceptedNames : List (List ℕ)
 acceptedNames = (97 ∷ 45 ∷ 49 ∷ []) ∷ (0xC3 ∷ 0xA9 ∷ []) ∷ (97 ∷ 0xC2 ∷ 0xB7 ∷ []) ∷ []
 
+-- 11. ""p" to "" accepted" changes sides (02, f): "only the default namespace may be undone", and a bound prefix can't be undone either
+abbrev pub declarations : List Call
+declarations =
+    append-element rootHandle [] (byte 101)
+    ∷ declare-namespace (h 1 0) (byte 112) []
+    ∷ declare-namespace (h 1 0) (byte 112) (byte 117)
+    ∷ declare-namespace (h 1 0) (byte 112) []
+    ∷ declare-namespace (h 1 0) [] (byte 117)
+    ∷ declare-namespace (h 1 0) [] []
+    ∷ []
+
 -- the fault of the minutes: a removal, then an addition in the same slot
 abbrev pub fault : List Call
 fault =
@@ -163,6 +174,9 @@ pub record Starred : Type 0 where
   pub eight : from refusals .answers ≡ made (h 1 0) ∷ done ∷ refused 12 ∷ refused 13 ∷ refused 11 ∷ refused 9 ∷ []
   pub nine-refused : map nameCheck refusedNames ≡ 2 ∷ 2 ∷ 2 ∷ 2 ∷ 2 ∷ []
   pub nine-accepted : map nameCheck acceptedNames ≡ 0 ∷ 0 ∷ 0 ∷ []
+  pub eleven : from declarations .answers ≡ made (h 1 0) ∷ refused 2 ∷ made (h 2 0) ∷ refused 2 ∷ made (h 3 0) ∷ made (h 3 0) ∷ []
+  pub eleven-bound : viewAt (from declarations .doc) (h 2 0) ≡ some (namespace (byte 112) (byte 117))
+  pub eleven-undone : viewAt (from declarations .doc) (h 3 0) ≡ some (namespace [] [])
   pub under-child : from underChild .answers ≡ made (h 1 0) ∷ made (h 2 0) ∷ refused 13 ∷ []
   pub replaced-value : from replacedValue .answers ≡ made (h 1 0) ∷ done ∷ done ∷ listed (block 0 1) (h 2 0 ∷ []) ∷ []
   pub detached-kept : from detachedTree .answers ≡ made (h 1 0) ∷ made (h 2 0) ∷ done ∷ done ∷ listed (block 0 1) (h 2 0 ∷ []) ∷ []

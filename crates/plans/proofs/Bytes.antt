@@ -6,12 +6,14 @@ use mathlib.Core.List.{List, [], _∷_}
 use Prim.Native.Nat.{ℕ}
 use native.Mathlib.Omega.{arith}
 use lib.ListN.{length}
+use lib.Dec.{eqb}
+use borrow.Author.Tests.{ne-eqb}
 use Rattle.chars.specs.declared.Check.{Check}
 use Rattle.chars.specs.Classes.{classOf, isNCName}
 use Rattle.chars.specs.Checks.{numberOf, onText, onTexts, ofText, checkText, checkComment, checkPi, checkPrefix, checkNamespace, checkNamespaceBinding, isWhiteSpace}
 use Rattle.chars.specs.Checks as text
 use Rattle.model.specs.Arguments.{refuseIf, first, isUtf8, notUtf8, nameCheck, namespaceCheck, prefixCheck, bindingCheck, isXmlns, textCheck, commentCheck, instructionCheck, spaceOnly}
-use Rattle.model.specs.Checks.{textUnder, isEmpty}
+use Rattle.model.specs.Checks.{textUnder, isEmpty, undeclaresPrefix, declarationCheck}
 
 -- ---- 1
 
@@ -65,10 +67,19 @@ pub name-checked : (ns local : List ℕ) (b : Bool) (k : Check) (a c v : ℕ) �
 unfolding nameCheck namespaceCheck
 name-checked ns local b k a c v e q f s h = h ∙ rw (q, e, s, f)
 
-pub binding-checked : (prefix uri : List ℕ) (j k : Check) (a b v : ℕ) → j ≡ onText (checkPrefix classOf) prefix → a ≡ numberOf j → k ≡ onText checkNamespaceBinding uri → b ≡ numberOf k → v ≡ first a b
-    → v ≡ first (prefixCheck prefix) (bindingCheck uri)
+pub undeclaring-checked : (prefix uri : List ℕ) (t : Bool) (v : ℕ) → (length prefix ≡ 0 → ⊥) → t ≡ eqb (length uri) 0 → v ≡ refuseIf t 2 → v ≡ refuseIf (undeclaresPrefix prefix uri) 2
+undeclaring-checked [] uri t v e q k = absurd (e refl)
+undeclaring-checked (x ∷ prefix) [] t v e q k = k ∙ ap (λ (b : Bool). refuseIf b 2) q
+undeclaring-checked (x ∷ prefix) (y ∷ uri) t v e q k = k ∙ ap (λ (b : Bool). refuseIf b 2) (q ∙ ne-eqb (length (y ∷ uri)) 0 (λ z. absurd (omega arith)))
+
+pub default-accepted : (prefix uri : List ℕ) → length prefix ≡ 0 → 0 ≡ refuseIf (undeclaresPrefix prefix uri) 2
+default-accepted [] uri e = refl
+default-accepted (x ∷ prefix) uri e = absurd (omega arith)
+
+pub declaration-checked : (prefix uri : List ℕ) (j k : Check) (a b c r v : ℕ) → j ≡ onText (checkPrefix classOf) prefix → a ≡ numberOf j → k ≡ onText checkNamespaceBinding uri → b ≡ numberOf k
+    → c ≡ refuseIf (undeclaresPrefix prefix uri) 2 → r ≡ first b c → v ≡ first a r → v ≡ declarationCheck prefix uri
 unfolding prefixCheck bindingCheck
-binding-checked prefix uri j k a b v e q f s h = h ∙ rw (q, e, s, f)
+declaration-checked prefix uri j k a b c r v e q f s g o h = h ∙ rw (o, g, q, e, s, f)
 
 pub xmlns-checked : (ns local : List ℕ) (t : Bool) (v : ℕ) → length ns ≡ 0 → t ≡ ofText text.isXmlns local → v ≡ refuseIf t 2 → v ≡ refuseIf (isEmpty ns && isXmlns local) 2
 unfolding isXmlns

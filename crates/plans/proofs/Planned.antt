@@ -16,8 +16,8 @@ use Rattle.names.specs.Table.{Name, name}
 use Rattle.model.specs.Kinds.{attributes, namespaces}
 use Rattle.model.specs.Doc.{Doc, resolves, viewAt, isSome}
 use Rattle.model.specs.Rules.{Rules}
-use Rattle.model.specs.Arguments.{refuseIf, first, notUtf8, nameCheck, namespaceCheck, textCheck, isXmlns, prefixCheck, bindingCheck}
-use Rattle.model.specs.Checks.{anElement, isEmpty, checkSetAttribute, checkRemoveAttribute, checkDeclareNamespace}
+use Rattle.model.specs.Arguments.{refuseIf, first, notUtf8, nameCheck, namespaceCheck, textCheck, isXmlns}
+use Rattle.model.specs.Checks.{anElement, isEmpty, checkSetAttribute, checkRemoveAttribute, declarationCheck, checkDeclareNamespace}
 use Rattle.model.specs.Calls.{set-attribute, remove-attribute, declare-namespace, fullUnless, nodeFits, textFits, nameFitsIn, twoFit, replacementFits, replaceableAt, findAttribute, findNamespace, setAttributeFound, declareNamespaceFound, removeAttributeFound, step}
 use Rattle.model.proofs.Guards.{first-zero, first-assoc}
 use Rattle.plans.specs.declared.search.Listed.{Listed}
@@ -133,7 +133,7 @@ module _ (D : Doc) (e : ℕ) (prefix uri : List ℕ) (x : ℕ) (t : Bool) (k : x
       accepted-before x (checkDeclareNamespace prefix uri (viewAt D e)) (number (findNamespace D e prefix)) t k q h v (s ∙ ap number f) ∙ sym (number-first _ D _)
 
   pub declare-live : t ≡ true → resolves D e ≡ true
-  declare-live h = live-accepted D e anElement refl x t (notUtf8 (prefix ∷ uri ∷ [])) (first (prefixCheck prefix) (bindingCheck uri)) k q h
+  declare-live h = live-accepted D e anElement refl x t (notUtf8 (prefix ∷ uri ∷ [])) (declarationCheck prefix uri) k q h
 
 module _ (D : Doc) (e : ℕ) (ns local : List ℕ) (v : ℕ) (k : v ≡ checkRemoveAttribute ns local (viewAt D e)) where
   done-zero : (f : Option ℕ) → refusalNumber (removeAttributeFound f D .answer) ≡ 0

@@ -2,8 +2,8 @@
 ghost use mathlib.Core.Path.{_≡_};
 ghost use mathlib.Core.List.{[], _∷_};
 ghost use mathlib.Core.Bool.{not, _&&_, cond};
-ghost use Rattle.model.specs.Arguments.{refuseIf, first, notUtf8, nameCheck, namespaceCheck, prefixCheck, bindingCheck, textCheck, spaceOnly, isXmlns};
-ghost use Rattle.model.specs.Checks.{textUnder, isEmpty};
+ghost use Rattle.model.specs.Arguments.{refuseIf, first, notUtf8, nameCheck, namespaceCheck, textCheck, spaceOnly, isXmlns};
+ghost use Rattle.model.specs.Checks.{textUnder, isEmpty, undeclaresPrefix, declarationCheck};
 ghost use Rattle.plans.specs.Verdicts.{verdictNumber};
 use crate::verdict::Verdict;
 use crate::verdict::first;
@@ -71,15 +71,25 @@ pub fn three_not_utf8(a: &[u8], b: &[u8], c: &[u8]) -> Verdict
     }
 }
 
-// A prefix, then the URI that it is bound to.
-pub fn check_binding(prefix: &[u8], uri: &[u8]) -> Verdict
-    ensures { λ r. ⌜ verdictNumber r ≡ first (prefixCheck (now (prefix .entry))) (bindingCheck (now (uri .entry))) ⌝ }
+// Only the default namespace may be undone.
+fn not_undeclared(prefix: &[u8], uri: &[u8]) -> Verdict
+    ensures { λ r. ⌜ verdictNumber r ≡ refuseIf (undeclaresPrefix (now (prefix .entry)) (now (uri .entry))) 2 ⌝ }
+{
+    if prefix.len() == 0 {
+        Verdict::Accepted
+    } else {
+        refuse_if(uri.len() == 0, Refusal::InvalidName)
+    }
+}
+
+// A prefix, then the URI that it is bound to, then both.
+pub fn check_declaration(prefix: &[u8], uri: &[u8]) -> Verdict
+    ensures { λ r. ⌜ verdictNumber r ≡ declarationCheck (now (prefix .entry)) (now (uri .entry)) ⌝ }
 {
     let named = of_check(productions::names::check_prefix(prefix));
-    first(
-        named,
-        of_check(productions::names::check_namespace_binding(uri)),
-    )
+    let bound = of_check(productions::names::check_namespace_binding(uri));
+    let rest = first(bound, not_undeclared(prefix, uri));
+    first(named, rest)
 }
 
 // No attribute without a namespace is called xmlns.

@@ -13,7 +13,7 @@ ghost use Rattle.memory.specs.Layout.{memoryOk};
 ghost use Rattle.memory.specs.Decode.{decode};
 ghost use Rattle.plans.specs.Verdicts.{verdictNumber};
 ghost use Rattle.memory.specs.Undamaged.{Undamaged};
-use crate::arguments::check_binding;
+use crate::arguments::check_declaration;
 use crate::arguments::two_not_utf8;
 use crate::full::name_fits;
 use crate::full::node_fits;
@@ -53,7 +53,7 @@ pub fn check_declare_namespace(
 {
     let place = first(two_not_utf8(prefix, uri), an_element(d, mem, element));
     if is_accepted(place) {
-        check_binding(prefix, uri)
+        check_declaration(prefix, uri)
     } else {
         place
     }

@@ -1,7 +1,8 @@
 //! The arguments of a random call: nodes, places and bytes that mostly fit the document.
 
 use super::Generator;
-use crate::calls::{Bytes, Call, Optional};
+use crate::calls::{Bytes, Call, Optional, optional_bytes};
+use crate::chars;
 use crate::choose;
 use crate::profiles::Act;
 use crate::random::Random;
@@ -154,7 +155,12 @@ impl Generator {
     fn declare_namespace(&mut self) -> Call {
         let element = self.owner();
         let prefix = self.texts.prefix(&mut self.random);
-        Call::DeclareNamespace { element, prefix, uri: self.texts.uri(&mut self.random) }
+        let mut uri = self.texts.uri(&mut self.random);
+        // The Rust binds a prefix to nothing, the port doesn't: such a call is in no list that both answer.
+        while uri.is_empty() && is_bound(&prefix) {
+            uri = self.texts.uri(&mut self.random);
+        }
+        Call::DeclareNamespace { element, prefix, uri }
     }
 
     /// Of the Root, the top of a detached tree, or any container.
@@ -187,4 +193,10 @@ impl Generator {
             _ => Call::Kind(node),
         }
     }
+}
+
+/// A prefix that isn't empty and is refused for no reason of its own.
+fn is_bound(prefix: &Optional) -> bool {
+    let prefix = std::str::from_utf8(optional_bytes(prefix));
+    prefix.is_ok_and(|prefix| !prefix.is_empty() && chars::is_prefix(prefix))
 }

@@ -7,7 +7,7 @@ use crate::driver::{NOT_UTF8, ORDER_STALE};
 use crate::tree::NodeId;
 
 impl Plain {
-    /// 1, then the Rust's own in its order.
+    /// 1, then the Rust's own in its order, and behind them the prefix bound to nothing, which the Rust accepts.
     pub(super) fn refusal(&self, call: &Call) -> Option<u8> {
         let texts: Result<Vec<&str>, _> = call.bytes().into_iter().map(std::str::from_utf8).collect();
         let Ok(texts) = texts else {
@@ -51,7 +51,8 @@ impl Plain {
                 .not_element(*element)
                 .or_else(|| unless(chars::is_prefix(prefix), 2))
                 .or_else(|| bad_uri(uri))
-                .or_else(|| unless(*uri != chars::XML, 2)),
+                .or_else(|| unless(*uri != chars::XML, 2))
+                .or_else(|| unless(prefix.is_empty() || !uri.is_empty(), 2)),
             (Call::Remove(node), _) => match self.kind(*node) {
                 None => Some(6),
                 Some(PlainKind::Root) => Some(11),

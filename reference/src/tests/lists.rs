@@ -2,14 +2,19 @@
 
 use crate::{Options, run};
 use std::collections::BTreeSet;
-use std::path::PathBuf;
+use std::path::{Path, PathBuf};
 
 fn folder() -> PathBuf {
     PathBuf::from(env!("CARGO_MANIFEST_DIR")).join("lists")
 }
 
+/// The lists that are compared with the Rust.
 fn names() -> Vec<String> {
-    let files = std::fs::read_dir(folder()).expect("the folder of lists");
+    lists_in(&folder())
+}
+
+fn lists_in(folder: &Path) -> Vec<String> {
+    let files = std::fs::read_dir(folder).expect("the folder of lists");
     let paths = files.map(|file| file.expect("a file").path());
     let lists = paths.filter(|path| path.extension().is_some_and(|extension| extension == "calls"));
     lists.map(|path| path.file_stem().expect("a name").to_string_lossy().into_owned()).collect()
@@ -32,6 +37,19 @@ fn answer(list: &str) -> (String, Vec<String>) {
 fn the_answers_are_those_beside_the_lists() {
     for name in names() {
         assert!(answer(&read(&name, "calls")).0 == read(&name, "answers"), "{name}");
+    }
+}
+
+/// "#= .." behind a call is its answer, written by hand: these are calls that the Rust answers otherwise.
+#[cfg(feature = "port")]
+#[test]
+fn the_port_answers_its_own_lists_as_written() {
+    for name in lists_in(&folder().join("own")) {
+        let list = read(&format!("own/{name}"), "calls");
+        let due: String = list.lines().filter_map(|line| Some(line.strip_prefix("#= ")?.to_string() + "\n")).collect();
+        let mut output = Vec::new();
+        crate::run_port(list.as_bytes(), &mut output).expect("nothing fails to be read or written");
+        assert_eq!(String::from_utf8(output).expect("answers are text"), due, "{name}");
     }
 }
 

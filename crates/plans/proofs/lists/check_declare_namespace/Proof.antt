@@ -17,11 +17,11 @@ first-requires c κs = search needs
 is-accepted-requires : tie.Need-is-accepted-requires
 is-accepted-requires c κs = search needs
 
-check-binding-requires : tie.Need-check-binding-requires
-check-binding-requires c κs = search needs
+check-declaration-requires : tie.Need-check-declaration-requires
+check-declaration-requires c κs = search needs
 
 returns : tie.Need-returns
-returns c = accepted-twice _ _ _ _ _ _ _ (c .before .before .before .before .before .two-not-utf8 .ensures) (c .before .before .before .before .an-element .ensures) (c .before .before .before .first .ensures) (c .before .before .is-accepted .ensures) (c .before .if1 .taken) _ (c .check-binding .ensures)
+returns c = accepted-twice _ _ _ _ _ _ _ (c .before .before .before .before .before .two-not-utf8 .ensures) (c .before .before .before .before .an-element .ensures) (c .before .before .before .first .ensures) (c .before .before .is-accepted .ensures) (c .before .if1 .taken) _ (c .check-declaration .ensures)
 
 returns-2 : tie.Need-returns-2
 returns-2 c = refused-twice _ _ _ _ _ _ _ (c .before .before .before .before .two-not-utf8 .ensures) (c .before .before .before .an-element .ensures) (c .before .before .first .ensures) (c .before .is-accepted .ensures) (c .if1 .left)
@@ -34,6 +34,6 @@ check-declare-namespace-spec =
     an-element-requires
     first-requires
     is-accepted-requires
-    check-binding-requires
+    check-declaration-requires
     returns
     returns-2)
