@@ -13,7 +13,7 @@ use Rattle.chars.specs.Classes.{classOf, isNCName}
 use Rattle.chars.specs.Checks.{numberOf, onText, onTexts, ofText, checkText, checkComment, checkPi, checkPrefix, checkNamespace, checkNamespaceBinding, isWhiteSpace}
 use Rattle.chars.specs.Checks as text
 use Rattle.model.specs.Arguments.{refuseIf, first, isUtf8, notUtf8, nameCheck, namespaceCheck, prefixCheck, bindingCheck, isXmlns, textCheck, commentCheck, instructionCheck, spaceOnly}
-use Rattle.model.specs.Checks.{textUnder, isEmpty, undeclaresPrefix, declarationCheck}
+use Rattle.model.specs.Checks.{textUnder, isEmpty, undeclaresPrefix}
 
 -- ---- 1
 
@@ -76,10 +76,15 @@ pub default-accepted : (prefix uri : List ℕ) → length prefix ≡ 0 → 0 ≡
 default-accepted [] uri e = refl
 default-accepted (x ∷ prefix) uri e = absurd (omega arith)
 
-pub declaration-checked : (prefix uri : List ℕ) (j k : Check) (a b c r v : ℕ) → j ≡ onText (checkPrefix classOf) prefix → a ≡ numberOf j → k ≡ onText checkNamespaceBinding uri → b ≡ numberOf k
-    → c ≡ refuseIf (undeclaresPrefix prefix uri) 2 → r ≡ first b c → v ≡ first a r → v ≡ declarationCheck prefix uri
-unfolding prefixCheck bindingCheck
-declaration-checked prefix uri j k a b c r v e q f s g o h = h ∙ rw (o, g, q, e, s, f)
+-- a prefix, or a URI that one is bound to, and the rest of the tests
+module _ (s : List ℕ) (k : Check) (a b c v : ℕ) where
+  pub prefix-checked : k ≡ onText (checkPrefix classOf) s → a ≡ numberOf k → b ≡ c → v ≡ first a b → v ≡ first (prefixCheck s) c
+  unfolding prefixCheck
+  prefix-checked e q g h = h ∙ rw (q, e, g)
+
+  pub binding-checked : k ≡ onText checkNamespaceBinding s → a ≡ numberOf k → b ≡ c → v ≡ first a b → v ≡ first (bindingCheck s) c
+  unfolding bindingCheck
+  binding-checked e q g h = h ∙ rw (q, e, g)
 
 pub xmlns-checked : (ns local : List ℕ) (t : Bool) (v : ℕ) → length ns ≡ 0 → t ≡ ofText text.isXmlns local → v ≡ refuseIf t 2 → v ≡ refuseIf (isEmpty ns && isXmlns local) 2
 unfolding isXmlns

@@ -2,7 +2,7 @@
 ghost use mathlib.Core.Path.{_≡_};
 ghost use mathlib.Core.List.{[], _∷_};
 ghost use mathlib.Core.Bool.{not, _&&_, cond};
-ghost use Rattle.model.specs.Arguments.{refuseIf, first, notUtf8, nameCheck, namespaceCheck, textCheck, spaceOnly, isXmlns};
+ghost use Rattle.model.specs.Arguments.{refuseIf, first, notUtf8, nameCheck, namespaceCheck, bindingCheck, textCheck, spaceOnly, isXmlns};
 ghost use Rattle.model.specs.Checks.{textUnder, isEmpty, undeclaresPrefix, declarationCheck};
 ghost use Rattle.plans.specs.Verdicts.{verdictNumber};
 use crate::verdict::Verdict;
@@ -82,14 +82,20 @@ fn not_undeclared(prefix: &[u8], uri: &[u8]) -> Verdict
     }
 }
 
-// A prefix, then the URI that it is bound to, then both.
+// The URI that a prefix is bound to.
+fn check_uri(prefix: &[u8], uri: &[u8]) -> Verdict
+    ensures { λ r. ⌜ verdictNumber r ≡ first (bindingCheck (now (uri .entry))) (refuseIf (undeclaresPrefix (now (prefix .entry)) (now (uri .entry))) 2) ⌝ }
+{
+    let bound = of_check(productions::names::check_namespace_binding(uri));
+    first(bound, not_undeclared(prefix, uri))
+}
+
+// A prefix, then its URI.
 pub fn check_declaration(prefix: &[u8], uri: &[u8]) -> Verdict
     ensures { λ r. ⌜ verdictNumber r ≡ declarationCheck (now (prefix .entry)) (now (uri .entry)) ⌝ }
 {
     let named = of_check(productions::names::check_prefix(prefix));
-    let bound = of_check(productions::names::check_namespace_binding(uri));
-    let rest = first(bound, not_undeclared(prefix, uri));
-    first(named, rest)
+    first(named, check_uri(prefix, uri))
 }
 
 // No attribute without a namespace is called xmlns.
