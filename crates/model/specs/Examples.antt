@@ -1,4 +1,4 @@
--- The starred bench examples of 01, over the calls on the document, as one list; and the fault that the port removes.
+-- The starred bench examples of 01, over the calls on the document, as one list; example 11 as 02 (f) has it; and the fault that the port removes.
 use mathlib.Core.Path.{_≡_}
 use mathlib.Core.Bool.{Bool, true, false}
 use mathlib.Core.Option.{Option, none, some}

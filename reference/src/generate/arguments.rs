@@ -157,7 +157,7 @@ impl Generator {
         let prefix = self.texts.prefix(&mut self.random);
         let mut uri = self.texts.uri(&mut self.random);
         // The Rust binds a prefix to nothing, the port doesn't: such a call is in no list that both answer.
-        while uri.is_empty() && is_bound(&prefix) {
+        while uri.is_empty() && may_be_bound(&prefix) {
             uri = self.texts.uri(&mut self.random);
         }
         Call::DeclareNamespace { element, prefix, uri }
@@ -196,7 +196,7 @@ impl Generator {
 }
 
 /// A prefix that isn't empty and is refused for no reason of its own.
-fn is_bound(prefix: &Optional) -> bool {
+fn may_be_bound(prefix: &Optional) -> bool {
     let prefix = std::str::from_utf8(optional_bytes(prefix));
     prefix.is_ok_and(|prefix| !prefix.is_empty() && chars::is_prefix(prefix))
 }
