@@ -74,10 +74,11 @@ checkSetAttribute ns local value node found =
 abbrev pub checkRemoveAttribute : List ℕ → List ℕ → View → ℕ
 checkRemoveAttribute ns local node = first (notUtf8 (ns ∷ local ∷ [])) (anElement node)
 
--- (02, f) "InvalidName for a non-empty prefix with an empty URI, after the other URI checks": "only the default namespace may be undone"
+-- (02, f) "a non-empty prefix with an empty URI": "only the default namespace may be undone"
 abbrev pub undeclaresPrefix : List ℕ → List ℕ → Bool
 undeclaresPrefix prefix uri = not (isEmpty prefix) && isEmpty uri
 
+-- (02, f) "InvalidName .., after the other URI checks"
 abbrev pub declarationCheck : List ℕ → List ℕ → ℕ
 declarationCheck prefix uri = first (prefixCheck prefix) (first (bindingCheck uri) (refuseIf (undeclaresPrefix prefix uri) 2))
 
