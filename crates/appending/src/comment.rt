@@ -1,5 +1,5 @@
 // A new comment goes behind a node's children.
-ghost use Rattle.slots.specs.Handles.{wordOf};
+ghost use Rattle.records.specs.Handles.{wordOf};
 ghost use Rattle.model.specs.Calls.{append-comment};
 ghost use Rattle.memory.specs.Undamaged.{Undamaged};
 ghost use Rattle.editing.specs.Contract.{Edits, Answers};
@@ -7,10 +7,10 @@ ghost use Rattle.editing.specs.Answers.{ofMade, afterMade};
 use editing::admission::admit;
 use editing::answers::MadeAnswer;
 use edits::append::do_append_comment;
-use memory::layout::Document;
-use plans::appending::plan_append_comment;
-use plans::verdict::Verdict;
-use slots::NodeId;
+use layout::Document;
+use plans::appends::plan_append_comment;
+use records::NodeId;
+use verdicts::verdict::Verdict;
 
 fn append_checked(d: Document, mem: &mut [u64], parent: NodeId, text: &[u8]) -> MadeAnswer
     requires { ⌜ Undamaged d (now mem) ⌝ }

@@ -1,23 +1,23 @@
 // An attribute of an element is set: its value replaced, or a new one behind the others.
 ghost use mathlib.Core.Path.{_≡_};
-ghost use Rattle.slots.specs.Handles.{wordOf};
+ghost use Rattle.records.specs.Handles.{wordOf};
 ghost use Rattle.names.specs.Table.{name};
 ghost use Rattle.model.specs.Calls.{set-attribute, findAttribute, done};
 ghost use Rattle.memory.specs.Decode.{decode};
 ghost use Rattle.memory.specs.Undamaged.{Undamaged};
 ghost use Rattle.memory.specs.Performed.{Admitted, Performed};
-ghost use Rattle.plans.specs.Listed.{listedWord};
+ghost use Rattle.lookup.specs.Listed.{listedWord};
 ghost use Rattle.editing.specs.Contract.{Edits, Answers};
 ghost use Rattle.editing.specs.Answers.{ofDone, afterDone};
 use editing::admission::admit;
 use editing::answers::DoneAnswer;
 use edits::attributes::append_attribute;
 use edits::attributes::replace_attribute;
-use memory::layout::Document;
+use layout::Document;
+use lookup::search::Listed;
 use plans::listing::plan_set_attribute;
-use plans::search::Listed;
-use plans::verdict::Verdict;
-use slots::NodeId;
+use records::NodeId;
+use verdicts::verdict::Verdict;
 
 fn put_attribute(
     d: Document,
@@ -34,7 +34,7 @@ fn put_attribute(
 {
     match found {
         Listed::At(word) => {
-            let id = slots::handle::id_of(word);
+            let id = records::handle::id_of(word);
             replace_attribute(d, mem, element, id, namespace, local, value)
         }
         Listed::Nowhere => append_attribute(d, mem, element, namespace, local, value),

@@ -1,11 +1,11 @@
 // A namespace of an element is declared: the URI of its prefix replaced, or a new node behind the others.
 ghost use mathlib.Core.Path.{_≡_};
-ghost use Rattle.slots.specs.Handles.{wordOf};
+ghost use Rattle.records.specs.Handles.{wordOf};
 ghost use Rattle.model.specs.Calls.{declare-namespace, findNamespace, made};
 ghost use Rattle.memory.specs.Decode.{decode};
 ghost use Rattle.memory.specs.Undamaged.{Undamaged};
 ghost use Rattle.memory.specs.Performed.{Admitted, Performed};
-ghost use Rattle.plans.specs.Listed.{listedWord};
+ghost use Rattle.lookup.specs.Listed.{listedWord};
 ghost use Rattle.editing.specs.Contract.{Edits, Answers};
 ghost use Rattle.editing.specs.Answers.{ofMade, afterMade};
 use editing::admission::admit;
@@ -13,11 +13,11 @@ use editing::answers::MadeAnswer;
 use edits::attributes::append_namespace;
 use edits::attributes::replace_namespace;
 use edits::born::NewNode;
-use memory::layout::Document;
+use layout::Document;
+use lookup::search::Listed;
 use plans::listing::plan_declare_namespace;
-use plans::search::Listed;
-use plans::verdict::Verdict;
-use slots::NodeId;
+use records::NodeId;
+use verdicts::verdict::Verdict;
 
 fn put_namespace(
     d: Document,
@@ -33,7 +33,7 @@ fn put_namespace(
 {
     match found {
         Listed::At(word) => {
-            let id = slots::handle::id_of(word);
+            let id = records::handle::id_of(word);
             let document = replace_namespace(d, mem, element, id, prefix, uri);
             NewNode { document, id }
         }

@@ -1,5 +1,5 @@
 // The text of a text node is replaced.
-ghost use Rattle.slots.specs.Handles.{wordOf};
+ghost use Rattle.records.specs.Handles.{wordOf};
 ghost use Rattle.model.specs.Calls.{set-text};
 ghost use Rattle.memory.specs.Undamaged.{Undamaged};
 ghost use Rattle.editing.specs.Contract.{Edits, Answers};
@@ -7,10 +7,10 @@ ghost use Rattle.editing.specs.Answers.{ofDone, afterDone};
 use editing::admission::admit;
 use editing::answers::DoneAnswer;
 use edits::replace::do_set_text;
-use memory::layout::Document;
+use layout::Document;
 use plans::setting::plan_set_text;
-use plans::verdict::Verdict;
-use slots::NodeId;
+use records::NodeId;
+use verdicts::verdict::Verdict;
 
 fn set_checked(d: Document, mem: &mut [u64], id: NodeId, text: &[u8]) -> DoneAnswer
     requires { ⌜ Undamaged d (now mem) ⌝ }

@@ -1,5 +1,4 @@
 pub mod Ranges
-pub mod Entries
 pub mod Steps
 pub mod Turns
 pub mod Rows

@@ -1,7 +1,6 @@
-// Characters: UTF-8, XML's characters and their classes, and what the productions over them answer.
-mod table; // table.rt: the classes of the code points below 2,048
+// Characters: UTF-8, XML's characters, and what the productions over them answer. In specs/ also their classes.
 pub mod utf8; // utf8.rt: one step of decoding
-pub mod xml; // xml.rt: Char and the class of a code point
+pub mod xml; // xml.rt: Char
 
 // What a check answers.
 pub enum Check {

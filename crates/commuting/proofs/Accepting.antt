@@ -13,13 +13,13 @@ use Rattle.model.specs.Edits.{unhook}
 use Rattle.model.specs.Calls.{isRefusal, moveTo, rootTaken, roomFits, otherThan}
 use Rattle.model.specs.Tree.{Tree, means, above, moved, rootElement}
 use Rattle.model.specs.Tree as tree
-use Rattle.model.proofs.Wf.{WF}
-use Rattle.model.proofs.Sim.{Sim}
-use Rattle.model.proofs.Basics.{by-handle, means-live}
-use Rattle.model.proofs.Views.{view-live, taken-by-other}
-use Rattle.model.proofs.Cycle.{cycle-agrees}
-use Rattle.model.proofs.Guards.{first-zero, stale-refused}
-use Rattle.model.proofs.WfEdits.{child-which}
+use Rattle.laws.proofs.Wf.{WF}
+use Rattle.laws.proofs.Sim.{Sim}
+use Rattle.laws.proofs.Basics.{by-handle, means-live}
+use Rattle.laws.proofs.Views.{view-live, taken-by-other}
+use Rattle.laws.proofs.Cycle.{cycle-agrees}
+use Rattle.laws.proofs.Guards.{first-zero, stale-refused}
+use Rattle.laws.proofs.WfEdits.{child-which}
 use Rattle.edits.proofs.Accepted.{checked-room}
 
 -- the births of the moved node and of its new parent, and the tree after the move

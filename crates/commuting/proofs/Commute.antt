@@ -10,7 +10,7 @@ use native.Mathlib.Decide.{ℕ-discrete}
 use borrow.Author.Tests.{eq-eqb, ne-eqb}
 use Rattle.model.specs.Kinds.{Which, children, attributes, namespaces, whichOf}
 use Rattle.model.specs.Tree.{Tree, update, moved}
-use Rattle.model.proofs.Basics.{update-other}
+use Rattle.laws.proofs.Basics.{update-other}
 use Rattle.commuting.proofs.Moved.{left, across, listsAfter, shifted, moved-told}
 
 -- x is the parent that a move leaves, or the one that it enters

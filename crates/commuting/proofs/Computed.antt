@@ -9,7 +9,7 @@ use Rattle.words.specs.Lists.{insertAt}
 use Rattle.words.specs.Ends.{startOf, lengthOf, pieceThere, piecePlace, pieceShown}
 use Rattle.blocks.specs.Arena.{block, takes, hasRoom, inserted, removed}
 use Rattle.slots.specs.Regions.{generationAt, freeAt, recordAt, nodeAt, orderAt}
-use Rattle.slots.specs.Records.{isSpan, isData, isParent, areRanges, isNode, dataOf, nodeOf}
+use Rattle.records.specs.Records.{isSpan, isData, isParent, areRanges, isNode, dataOf, nodeOf}
 use Rattle.names.specs.Table.{interned, nameFits}
 use Rattle.names.specs.Words.{partShown, nameThere, nameShown}
 use Rattle.chars.specs.Productions.{within, isNameStartChar, isNameChar}
@@ -19,13 +19,13 @@ use Rattle.chars.specs.Utf8 as utf8
 use Rattle.chars.specs.Checks.{onText, ofText, checkText, checkNamespace}
 use Rattle.chars.specs.Checks as text
 use Rattle.model.specs.Kinds.{Which, children, attributes, namespaces}
-use Rattle.model.specs.Doc.{Doc, rangeIn}
+use Rattle.model.specs.Doc.{Doc, columns, rangeIn}
 use Rattle.model.specs.Edits.{setParent, born, link, unlink, orderOf, renewOrder}
 use Rattle.model.specs.Arguments.{isUtf8, nameCheck, namespaceCheck}
 use Rattle.model.specs.Calls.{document-order, keys, isRefusal, guarded, step, done}
 use Rattle.model.specs.Tree.{seed}
 use Rattle.model.specs.Tree as tree
-use Rattle.memory.specs.Layout.{arenaAt, textsAt, namesAt}
+use Rattle.layout.specs.Layout.{arenaAt, textsAt, namesAt}
 use Rattle.memory.specs.Decode.{decode, countsWithin, lengthsAdd}
 use Rattle.editing.specs.Contract.{isEditing, scratchAfter}
 use Rattle.tree.specs.Claim.{Event, Tells}
@@ -45,21 +45,9 @@ each f g e namespaces = e .2
 same-document : (d e : Doc) → d .limits ≡ e .limits → d .gens ≡ e .gens → d .free ≡ e .free → d .kinds ≡ e .kinds → d .parents ≡ e .parents
     → Each (d .ranges) (e .ranges) → Each (d .arenas) (e .arenas) → d .order ≡ e .order → d .current ≡ e .current
     → d .pool ≡ e .pool → d .names ≡ e .names → d .countsFit ≡ e .countsFit → d .lengthsFit ≡ e .lengthsFit → d ≡ e
-same-document d e limits gens free kinds parents ranges arenas order current pool names counts lengths = λ i. record {
-  limits = limits i;
-  gens = gens i;
-  free = free i;
-  kinds = kinds i;
-  parents = parents i;
-  ranges = λ w. each (d .ranges) (e .ranges) ranges w i;
-  arenas = λ w. each (d .arenas) (e .arenas) arenas w i;
-  order = order i;
-  current = current i;
-  pool = pool i;
-  names = names i;
-  countsFit = counts i;
-  lengthsFit = lengths i;
-}
+same-document d e limits gens free kinds parents ranges arenas order current pool names counts lengths = λ i.
+    columns (limits i) (gens i) (free i) (kinds i) (parents i) (λ w. each (d .ranges) (e .ranges) ranges w i) (λ w. each (d .arenas) (e .arenas) arenas w i)
+    (order i) (current i) (pool i) (names i) (counts i) (lengths i)
 
 -- ---- what each call leaves, computed
 

@@ -12,8 +12,8 @@ use Rattle.model.specs.Calls.{Call, isRefusal, step, moveTo, document-order, co
 use Rattle.model.specs.Calls as calls
 use Rattle.model.specs.Tree.{Tree, means, moved, setCurrent}
 use Rattle.model.specs.Tree as tree
-use Rattle.model.specs.Claim.{Agrees, KeysAgree}
-use Rattle.memory.specs.declared.layout.Document.{Document}
+use Rattle.laws.specs.Claim.{Agrees, KeysAgree}
+use Rattle.layout.specs.declared.Document.{Document}
 use Rattle.memory.specs.Decode.{decode}
 use Rattle.tree.specs.Claim.{Event, Promised, treeAfter, outOf}
 use Rattle.tree.proofs.Theorem.{Made, Stands, After, made, sound, one-event, accepted-steps}

@@ -10,8 +10,8 @@ use lib.ListN.{length, replicate, drop, drop-of-length-le}
 use Rattle.model.specs.Doc.{limitsOk}
 use Rattle.model.specs.Calls.{document-order, done}
 use Rattle.model.specs.Tree.{Tree, seed}
-use Rattle.memory.specs.declared.layout.Limits as given
-use Rattle.memory.specs.Layout.{limitsOf, documentWords, scratchWords, memoryOk, buffersOk}
+use Rattle.layout.specs.declared.Limits as given
+use Rattle.layout.specs.Layout.{limitsOf, documentWords, scratchWords, memoryOk, buffersOk}
 use Rattle.editing.specs.Contract.{scratchAfter, Edits}
 use Rattle.editing.proofs.Editing.{edits}
 use Rattle.tree.specs.Contract.{startable, Starts}

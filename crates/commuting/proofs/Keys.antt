@@ -10,11 +10,11 @@ use lib.Seq.{ext-getD}
 use Rattle.model.specs.Doc.{Doc, resolves, liveSlot}
 use Rattle.model.specs.Calls.{orderKey}
 use Rattle.model.specs.Tree.{Tree, means}
-use Rattle.model.specs.Claim.{KeysAgree}
-use Rattle.model.proofs.Wf.{WF}
-use Rattle.model.proofs.Sim.{Sim}
-use Rattle.model.proofs.Basics.{by-handle, means-live}
-use Rattle.model.proofs.Explained.{explains}
+use Rattle.laws.specs.Claim.{KeysAgree}
+use Rattle.laws.proofs.Wf.{WF}
+use Rattle.laws.proofs.Sim.{Sim}
+use Rattle.laws.proofs.Basics.{by-handle, means-live}
+use Rattle.laws.proofs.Explained.{explains}
 use Rattle.commuting.proofs.Slots.{SameSlots, same-live}
 
 module _ (t : Tree) (hs : ℕ → ℕ) (W : WF t) (d e : Doc) (S : Sim d t hs) (R : Sim e t hs) where

@@ -7,7 +7,7 @@ use mathlib.Core.List.{List}
 use Prim.Native.Nat.{ℕ, zero, suc}
 use lib.Dec.{eqb}
 use lib.ListN.{length, getD}
-use Rattle.slots.specs.Handles.{handleIndex, handleGeneration}
+use Rattle.records.specs.Handles.{handleIndex, handleGeneration}
 use Rattle.model.specs.Kinds.{Kind, children}
 use Rattle.model.specs.Arguments.{first}
 use Rattle.model.specs.Checks.{checkMove}

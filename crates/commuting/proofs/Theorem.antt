@@ -10,9 +10,9 @@ use lib.ListN.{length}
 use Rattle.model.specs.Doc.{Doc, parentAt, mapOption}
 use Rattle.model.specs.Calls.{Answered, document-order, order-key, orderKey, keys}
 use Rattle.model.specs.Tree.{Tree, means, moved, setCurrent}
-use Rattle.model.proofs.Explained.{explains}
-use Rattle.memory.specs.declared.layout.Document.{Document}
-use Rattle.memory.specs.Layout.{memoryOk}
+use Rattle.laws.proofs.Explained.{explains}
+use Rattle.layout.specs.declared.Document.{Document}
+use Rattle.layout.specs.Layout.{memoryOk}
 use Rattle.memory.specs.Decode.{decode}
 use Rattle.reading.specs.Contract.{reads}
 use Rattle.tree.specs.Claim.{treeAfter}

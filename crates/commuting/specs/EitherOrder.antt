@@ -7,9 +7,9 @@ use Prim.Native.Nat.{ℕ}
 use Rattle.model.specs.Doc.{Doc, rootHandle, resolves}
 use Rattle.model.specs.Calls.{Call, document-order, compact, order-key, isRefusal, done}
 use Rattle.model.specs.Tree.{Tree, seed}
-use Rattle.model.specs.Claim.{Explains}
-use Rattle.memory.specs.declared.layout.Document.{Document}
-use Rattle.memory.specs.declared.layout.Limits as given
+use Rattle.laws.specs.Claim.{Explains}
+use Rattle.layout.specs.declared.Document.{Document}
+use Rattle.layout.specs.declared.Limits as given
 use Rattle.memory.specs.Decode.{decode}
 use Rattle.reading.specs.Contract.{reads}
 use Rattle.tree.specs.Contract.{Starts}

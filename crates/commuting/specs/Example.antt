@@ -11,9 +11,10 @@ use Rattle.model.specs.Kinds.{children}
 use Rattle.model.specs.Doc.{handleWord, rootHandle, noKey, rangeIn}
 use Rattle.model.specs.Calls.{Call, append-element, Answered, made, done, keys}
 use Rattle.model.specs.Tree.{seed}
-use Rattle.memory.specs.declared.layout.Document.{Document}
-use Rattle.memory.specs.declared.layout.Limits as given
+use Rattle.layout.specs.declared.Document.{Document}
+use Rattle.layout.specs.declared.Limits as given
 use Rattle.memory.specs.Decode.{decode}
+use Rattle.layout.specs.Record.{lengthsWith, tableCounts, recordWith, slotsAlone}
 use Rattle.tree.specs.Contract.{Starts}
 use Rattle.tree.specs.Claim.{Event, Called, Tells, treeEnd}
 use Rattle.commuting.specs.Moves.{Move, callOf, independent}
@@ -26,11 +27,9 @@ limits = record { nodes = 3; children = 16; attributes = 0; namespaces = 0; text
 
 -- the record of so many slots, entries and names of one byte
 abbrev pub counted : ℕ → ℕ → ℕ → Bool → Document
-counted slots entries names current = record {
-  limits = limits;
-  counts = record { slots = slots; free = 0; children = entries; attributes = 0; namespaces = 0; texts = 0; freetexts = 0; textbytes = 0; names = names; namebytes = names };
-  current = current;
-}
+counted slots entries names current =
+    let bare = slotsAlone limits slots current in
+    recordWith bare (tableCounts (lengthsWith (bare .counts) entries 0 0) (record { names = names; bytes = names })) current
 
 -- the twelve words of a node: its kind, its parent's index and one more, its block of children
 abbrev pub nodeWords : ℕ → ℕ → Block → List ℕ

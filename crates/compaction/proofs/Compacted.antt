@@ -10,13 +10,14 @@ use lib.ListN.{length, drop}
 use Rattle.blocks.specs.Arena.{arenaOf}
 use Rattle.blocks.proofs.Copies.{decoded-copied}
 use Rattle.model.specs.Kinds.{Which, children, attributes, namespaces}
-use Rattle.model.specs.Doc.{Doc}
+use Rattle.model.specs.Doc.{Doc, changeArenas, changeCurrent, changeFits}
 use Rattle.model.specs.Edits.{Laying, laying, rebuilt, rebuildArenas, renewOrder, orderOf}
 use Rattle.model.specs.Calls.{compact, done}
-use Rattle.memory.specs.declared.layout.Document.{Document}
-use Rattle.memory.specs.declared.layout.Limits as given
-use Rattle.memory.specs.Layout.{limitsOf, entriesOf, documentWords, memoryOk, buffersOk}
-use Rattle.memory.specs.Decode.{usedOf, countsWithin, arenaPart, arenaUsed, slotsMade, documentOf, poolIn, namesIn, lengthsAdd, decode}
+use Rattle.layout.specs.declared.Document.{Document}
+use Rattle.layout.specs.declared.Limits as given
+use Rattle.layout.specs.Layout.{limitsOf, entriesOf, documentWords, memoryOk, buffersOk}
+use Rattle.memory.specs.Decode.{countsWithin, arenaPart, arenaUsed, slotsMade, documentOf, poolIn, namesIn, lengthsAdd, decode}
+use Rattle.layout.specs.Record.{usedOf, renewed}
 use Rattle.memory.specs.Step.{Step}
 use Rattle.memory.specs.Performed.{Performed}
 use Rattle.memory.specs.Undamaged.{Undamaged}
@@ -24,10 +25,10 @@ use Rattle.memory.proofs.Columns.{length-gens}
 use Rattle.memory.proofs.Counted.{counts-fit, fit-counts}
 use Rattle.memory.proofs.Shaped.{length-arenaPart, length-ids, shape}
 use Rattle.memory.proofs.Kept.{decode-kept}
-use Rattle.walks.specs.Order.{Walkable, putOrders, renewed}
+use Rattle.walks.specs.Order.{Walkable, putOrders}
 use Rattle.walks.proofs.Cleared.{buffers-memory, renewed-step}
 use Rattle.compaction.specs.declared.copy.Lengths.{Lengths}
-use Rattle.compaction.specs.Copies.{lengthOf, countsRebuilt, arenasReplaced, lengthsRebuilt, rebuiltBelow, TreesLaid}
+use Rattle.compaction.specs.Copies.{lengthOf, countsRebuilt, withBlocks, arenasReplaced, lengthsRebuilt, rebuiltBelow, TreesLaid}
 use Rattle.compaction.proofs.Nodes.{length-is}
 use Rattle.compaction.proofs.Layings.{layings}
 use Rattle.compaction.proofs.Growing.{made-few}
@@ -91,21 +92,7 @@ module _ (d : Document) (o mem : List ℕ) (used : Lengths) (T : TreesLaid d o m
 
   -- a document with the arenas laid
   abbrev laidOf : Doc → Doc
-  laidOf x = record {
-    limits = x .limits;
-    gens = x .gens;
-    free = x .free;
-    kinds = x .kinds;
-    parents = x .parents;
-    ranges = x .ranges;
-    arenas = λ w. laying (decode d o) w .arena;
-    order = x .order;
-    current = false;
-    pool = x .pool;
-    names = x .names;
-    countsFit = x .countsFit;
-    lengthsFit = x .lengthsFit;
-  }
+  laidOf x = changeCurrent (changeArenas x (λ w. laying (decode d o) w .arena)) false
 
   module _ (mem′ : List ℕ) (e : mem′ ≡ arenasReplaced d used mem) where
     A : AllReplaced d used laid-fits mem laid-ok mem′
@@ -124,42 +111,16 @@ module _ (d : Document) (o mem : List ℕ) (used : Lengths) (T : TreesLaid d o m
     document-laid =
         decode-kept (lengthsRebuilt d used) mem mem′ (record { texts = A .texts .texts; names = A .texts .names })
         ∙ (λ i. documentOf (poolIn d mem) (namesIn d mem) (lengthsAdd d mem) (lengthsRebuilt d used) (A .slots i) (λ a. arenaPart d a mem′))
-        ∙ (λ i. record {
-          limits = decode d mem .limits;
-          gens = decode d mem .gens;
-          free = decode d mem .free;
-          kinds = decode d mem .kinds;
-          parents = decode d mem .parents;
-          ranges = decode d mem .ranges;
-          arenas = λ w. arena-after w i;
-          order = decode d mem .order;
-          current = false;
-          pool = decode d mem .pool;
-          names = decode d mem .names;
-          countsFit = (counts-rebuilt ∙ sym (T .rules .fields .counts)) i;
-          lengthsFit = decode d mem .lengthsFit;
-        })
+        ∙ (λ i.
+        let lists = changeArenas (decode d mem) (λ w. arena-after w i) in
+        changeFits (changeCurrent lists false) ((counts-rebuilt ∙ sym (T .rules .fields .counts)) i) (decode d mem .lengthsFit))
 
     pub document-rebuilt : decode (lengthsRebuilt d used) mem′ ≡ rebuildArenas (decode d o)
     unfolding rebuildArenas
     document-rebuilt =
         document-laid
         ∙ ap laidOf (T .copies .document)
-        ∙ (λ i. record {
-          limits = D .limits;
-          gens = D .gens;
-          free = D .free;
-          kinds = D .kinds;
-          parents = D .parents;
-          ranges = λ w. laid-all w i .ranges;
-          arenas = λ w. laying D w .arena;
-          order = D .order;
-          current = false;
-          pool = D .pool;
-          names = D .names;
-          countsFit = D .countsFit;
-          lengthsFit = D .lengthsFit;
-        })
+        ∙ (λ i. changeCurrent (withBlocks D (λ w. laid-all w i .ranges) (λ w. laying D w .arena)) false)
 
     pub rebuilt-step : (r : Document) → r ≡ lengthsRebuilt d used → Step d o r mem′ (rebuildArenas (decode d o))
     rebuilt-step r q = record {

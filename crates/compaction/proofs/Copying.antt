@@ -2,39 +2,38 @@
 -- Assumes nothing.
 use mathlib.Core.Path.{_≡_, refl, sym, ap, _∙_, subst}
 use mathlib.Core.Bool.{Bool, true, false, cond, true≢false}
-use mathlib.Core.List.{List, _++_}
-use Prim.Native.Nat.{ℕ, _+_, _-_, _*_, _≤_, _<_}
+use mathlib.Core.List.{List}
+use Prim.Native.Nat.{ℕ, _+_, _*_, _≤_, _<_}
 use native.Mathlib.Omega.{arith}
 use lib.ListN.{length, set, take, drop}
 use Rattle.words.specs.Parts.{part}
-use Rattle.words.proofs.Parts.{length-part, returned}
+use Rattle.words.proofs.Parts.{length-part}
 use Rattle.blocks.specs.Arena.{Block, block, arenaOf, listOf, laid}
-use Rattle.blocks.specs.Compact.{copied, BlockCopied}
+use Rattle.blocks.specs.Compact.{copied}
 use Rattle.slots.specs.Regions.{putRecord}
-use Rattle.slots.specs.declared.Range.{Range}
-use Rattle.slots.specs.declared.Node.{Node}
-use Rattle.slots.specs.declared.NodeRecord.{NodeRecord}
-use Rattle.slots.specs.declared.Loaded.{Loaded}
-use Rattle.slots.specs.declared.Loaded.the-variants.{Found, NoNode}
+use Rattle.records.specs.declared.Range.{Range}
+use Rattle.records.specs.declared.Node.{Node}
+use Rattle.records.specs.declared.NodeRecord.{NodeRecord}
+use Rattle.records.specs.declared.Loaded.{Loaded}
+use Rattle.records.specs.declared.Loaded.the-variants.{Found, NoNode}
 use Rattle.slots.proofs.Regions.{length-putRecord}
 use Rattle.model.specs.Kinds.{Which, children, attributes, namespaces, sameWhich}
 use Rattle.model.specs.Doc.{Doc, liveSlot, kindIn, rangeIn, listIn}
 use Rattle.model.specs.Rules.{hasRange}
 use Rattle.model.specs.Edits.{Laying, updateWhich, layList}
-use Rattle.memory.specs.declared.layout.Document.{Document}
-use Rattle.memory.specs.Layout.{limitsOf, entriesOf, arenaAt, documentWords, memoryOk}
+use Rattle.layout.specs.declared.Document.{Document}
+use Rattle.layout.specs.Layout.{limitsOf, entriesOf, documentWords, memoryOk}
 use Rattle.memory.specs.Decode.{kindOf, blockOf, loadedAt, slotsPart, arenaPart, slotsMade, arenaUsed, arenaIn, documentOf, poolIn, namesIn, lengthsAdd, decode}
-use Rattle.memory.specs.Writing.{putSlots, putArena, putRange, setRange}
-use Rattle.memory.proofs.Limits.{sizes}
+use Rattle.memory.specs.Writing.{putSlots, putRange, setRange, ArenaCopied}
+use Rattle.layout.proofs.Sizes.{sizes}
 use Rattle.memory.proofs.Columns.{live-made, live-none, kind-found}
-use Rattle.memory.proofs.Shaped.{length-slotsPart, length-arenaPart, length-ids}
+use Rattle.memory.proofs.Shaped.{length-slotsPart, length-ids}
 use Rattle.memory.proofs.Written.{sameWhich-true, length-putSlots, arenaPart-putSlots, length-putArena, slotsPart-putArena, arenaPart-putArena, arenaPart-putArena-other, memory-kept}
 use Rattle.memory.proofs.Past.{slots-past, arena-past}
-use Rattle.memory.proofs.Arenas.{arena-lent}
 use Rattle.memory.proofs.Kept.{TextsKept, decode-kept, putArena-texts}
 use Rattle.memory.proofs.Promises.{range-promise}
 use Rattle.compaction.specs.declared.copy.Lengths.{Lengths}
-use Rattle.compaction.specs.Copies.{lengthOf, withLength, withBlocks, copiesIn, Copies, ArenaCopied, Layable, listLaid}
+use Rattle.compaction.specs.Copies.{lengthOf, withLength, withBlocks, copiesIn, Copies, Layable, listLaid}
 
 -- ---- one of three changed
 
@@ -66,25 +65,6 @@ length-other u namespaces n namespaces e = absurd (true≢false e)
 module _ (d : Document) (mem : List ℕ) (ok : memoryOk d (length mem) ≡ true) where
   words-size : (s : ℕ) → s < d .limits .nodes → (r : NodeRecord) → length (putRecord (d .limits .nodes) (slotsPart d mem) s r) ≡ 15 * d .limits .nodes
   words-size s b r = length-putRecord (d .limits .nodes) (slotsPart d mem) (omega (arith, length-slotsPart d mem ok)) s r b ∙ length-slotsPart d mem ok
-
--- ---- the part of an arena, lent and returned with a copy
-
-pub arena-copied : (d : Document) (w : Which) (mem : List ℕ) → memoryOk d (length mem) ≡ true → (limit start : ℕ) → limit ≡ entriesOf (d .limits) w → start ≡ arenaAt (limitsOf (d .limits)) w
-    → (used s n : ℕ) (ys : List ℕ) → length ys ≡ length (take (start + (limit + limit) - start) (drop start mem))
-    → BlockCopied (take (start + (limit + limit) - start) (drop start mem)) ys limit used s n
-    → ArenaCopied d mem (take start mem ++ (ys ++ drop (start + (limit + limit) - start) (drop start mem))) w used s n
-unfolding putArena
-arena-copied d w mem ok limit start el es used s n ys k b =
-    let E = entriesOf (d .limits) w in
-    let S = arenaAt (limitsOf (d .limits)) w in
-    let a = arena-lent d w mem limit start el es in
-    let long : length ys ≡ E + E = k ∙ ap length a ∙ length-arenaPart d mem ok w in
-    record {
-      words = ys;
-      long = long;
-      memory = rw (el, es) (returned mem ys S (E + E) long);
-      block = rw (el) at (rw a at b);
-    }
 
 -- ---- the node in a live slot
 

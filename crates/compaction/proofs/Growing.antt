@@ -10,15 +10,15 @@ use lib.ListN.{length, getD, take, length-append, length-reverse}
 use lib.Seq.{length-take-le}
 use Rattle.words.specs.Parts.{put}
 use Rattle.words.proofs.Parts.{length-put}
-use Rattle.slots.specs.Handles.{handleIndex}
+use Rattle.records.specs.Handles.{handleIndex}
 use Rattle.model.specs.Kinds.{Which, children, isElement}
 use Rattle.model.specs.Doc.{Doc, liveSlot, handleAt, kindAt, parentIn, listIn, listAt, hasList}
 use Rattle.model.specs.Rules.{Rules}
 use Rattle.model.specs.Edits.{Laying, walk, layList, layingFrom}
-use Rattle.memory.specs.declared.layout.Document.{Document}
-use Rattle.memory.specs.Layout.{memoryOk}
+use Rattle.layout.specs.declared.Document.{Document}
+use Rattle.layout.specs.Layout.{memoryOk}
 use Rattle.memory.specs.Decode.{slotsMade, poolIn, namesIn, lengthsAdd, decode}
-use Rattle.memory.proofs.Limits.{sizes}
+use Rattle.layout.proofs.Sizes.{sizes}
 use Rattle.memory.proofs.Columns.{length-gens, live-made}
 use Rattle.memory.proofs.Shaped.{length-ids}
 use Rattle.walks.specs.Order.{ListHeld}

@@ -12,15 +12,15 @@ use Rattle.words.proofs.Joined.{joined-append}
 use Rattle.blocks.specs.Arena.{Block, block, listOf}
 use Rattle.blocks.proofs.Capacities.{capacity-least}
 use Rattle.blocks.proofs.Edits.{list-length}
-use Rattle.slots.specs.Handles.{handleIndex}
+use Rattle.records.specs.Handles.{handleIndex}
 use Rattle.model.specs.Kinds.{Kind, Which, children, attributes, namespaces, sameWhich, whichOf, isElement}
 use Rattle.model.specs.Doc.{Doc, liveSlot, kindAt, rangeIn, listIn, listAt, hasList}
 use Rattle.model.specs.Rules.{Rules, hasRange, blockIn}
 use Rattle.model.specs.Edits.{Laying, layList, layAll, layingFrom}
-use Rattle.model.proofs.Wf.{Distinct}
-use Rattle.model.proofs.Membership.{mem-map-cases, distinct-map}
-use Rattle.model.proofs.Laid.{total-within, rangeOf, laidAll, laidAll-other}
-use Rattle.model.proofs.Rebuilt.{mem-keep-old, distinct-keep}
+use Rattle.laws.proofs.Wf.{Distinct}
+use Rattle.laws.proofs.Membership.{mem-map-cases, distinct-map}
+use Rattle.laws.proofs.Laid.{total-within, rangeOf, laidAll, laidAll-other}
+use Rattle.laws.proofs.Rebuilt.{mem-keep-old, distinct-keep}
 use Rattle.walks.proofs.Walkable.{live-of, same-index}
 use Rattle.compaction.proofs.MetNodes.{keep-append, Live, Met, met-in, met-live, met-once, next-live, met-next}
 

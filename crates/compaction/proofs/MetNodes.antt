@@ -13,18 +13,18 @@ use borrow.Author.Tests.{eq-eqb}
 use Rattle.words.specs.Lists.{countOf, joined, keep, tabulate}
 use Rattle.words.proofs.Joined.{joined-append}
 use Rattle.words.proofs.Tests.{and-both}
-use Rattle.slots.specs.Handles.{handleIndex, handleGeneration}
-use Rattle.slots.proofs.Handles.{handleIndex-wordOf, handleGeneration-wordOf}
+use Rattle.records.specs.Handles.{handleIndex, handleGeneration}
+use Rattle.records.proofs.Handles.{handleIndex-wordOf, handleGeneration-wordOf}
 use Rattle.model.specs.Kinds.{Which, children, whichOf, owns}
 use Rattle.model.specs.Doc.{Doc, generationAt, liveSlot, handleAt, resolves, kindIn, kindAt, parentIn, parentAt, listAt, isNone}
 use Rattle.model.specs.Rules.{Rules, Ends, top, up}
 use Rattle.model.specs.Edits.{walk, rebuilt}
-use Rattle.model.proofs.Rebuilt.{container-child}
-use Rattle.model.proofs.Wf.{Distinct}
-use Rattle.model.proofs.Basics.{live-below, count-mem}
-use Rattle.model.proofs.Membership.{mem-joined, mem-reverse, mem-reverse-old, distinct-reverse}
-use Rattle.model.proofs.Laid.{mem-tabulate}
-use Rattle.model.proofs.Rebuilt.{mem-keep}
+use Rattle.laws.proofs.Rebuilt.{container-child}
+use Rattle.laws.proofs.Wf.{Distinct}
+use Rattle.laws.proofs.Basics.{live-below, count-mem}
+use Rattle.laws.proofs.Membership.{mem-joined, mem-reverse, mem-reverse-old, distinct-reverse}
+use Rattle.laws.proofs.Laid.{mem-tabulate}
+use Rattle.laws.proofs.Rebuilt.{mem-keep}
 use Rattle.walks.proofs.Walkable.{live-of, handle-of, same-index, parent-is, entry-live, list-once}
 use Rattle.walks.proofs.Visits.{Branching, VisitingFrom, visiting-none, visiting-none-is, visited-next, visited-next-is, visited-fits, visiting-top, visiting-top-is, visiting-more, visiting-more-is}
 use Rattle.compaction.specs.Copies.{topsBelow, rebuiltBelow}

@@ -9,13 +9,13 @@ use lib.ListN.{length, getD}
 use Rattle.words.specs.Parts.{part}
 use Rattle.blocks.specs.Arena.{Arena, Block, block}
 use Rattle.blocks.specs.Compact.{copied}
-use Rattle.slots.specs.Handles.{handleIndex}
+use Rattle.records.specs.Handles.{handleIndex}
 use Rattle.model.specs.Kinds.{Which, children, attributes, namespaces, sameWhich, isElement}
 use Rattle.model.specs.Doc.{Doc, liveSlot, kindIn, kindAt, rangeIn, listIn, hasList}
 use Rattle.model.specs.Rules.{hasRange}
 use Rattle.model.specs.Edits.{Laying, layList}
-use Rattle.memory.specs.declared.layout.Document.{Document}
-use Rattle.memory.specs.Layout.{memoryOk}
+use Rattle.layout.specs.declared.Document.{Document}
+use Rattle.layout.specs.Layout.{memoryOk}
 use Rattle.memory.specs.Decode.{arenaIn, decode}
 use Rattle.compaction.specs.declared.copy.Lengths.{Lengths}
 use Rattle.compaction.specs.Copies.{lengthOf, withBlocks, copiesIn, Copies, Layable, NodeLayable, listLaid, nodeLaid}

@@ -11,10 +11,10 @@ use lib.Dec.{eqb}
 use Rattle.slots.specs.Regions.{generationAt}
 use Rattle.model.specs.Doc as doc
 use Rattle.model.specs.Doc.{even, liveSlot, handleAt, parentIn, isSome, isNone}
-use Rattle.memory.specs.declared.layout.Document.{Document}
+use Rattle.layout.specs.declared.Document.{Document}
 use Rattle.memory.specs.Decode.{slotsPart, slotsMade, poolIn, namesIn, lengthsAdd, decode}
-use Rattle.memory.specs.Layout.{memoryOk}
-use Rattle.memory.proofs.Limits.{sizes}
+use Rattle.layout.specs.Layout.{memoryOk}
+use Rattle.layout.proofs.Sizes.{sizes}
 use Rattle.memory.proofs.Steps.{loaded-as}
 use Rattle.memory.proofs.Columns.{generation-in, live-made, handle-in}
 use Rattle.compaction.specs.Copies.{NodesEven}

@@ -14,17 +14,17 @@ use Rattle.words.proofs.Parts.{part-none}
 use Rattle.blocks.specs.Arena.{block, listOf}
 use Rattle.blocks.specs.Rule.{BlocksApart}
 use Rattle.blocks.proofs.Laid.{cleared-none}
-use Rattle.slots.specs.Handles.{handleIndex}
-use Rattle.slots.proofs.Handles.{handleIndex-wordOf}
+use Rattle.records.specs.Handles.{handleIndex}
+use Rattle.records.proofs.Handles.{handleIndex-wordOf}
 use Rattle.model.specs.Kinds.{Kind, root, element, attribute, text, comment, namespace, instruction, Which, children, attributes, namespaces, whichOf, isElement}
 use Rattle.model.specs.Doc.{Doc, generationAt, liveSlot, handleAt, kindIn, kindAt, rangeIn, listIn, hasList}
 use Rattle.model.specs.Rules.{Rules, Shape, hasRange, blockIn}
 use Rattle.model.specs.Edits.{Laying, layingFrom, laying, rebuilt, rebuildArenas}
-use Rattle.model.proofs.Wf.{Distinct}
-use Rattle.model.proofs.Basics.{live-below, live-node}
-use Rattle.model.proofs.Membership.{mem-map}
-use Rattle.model.proofs.Laid.{rangeOf, Packed, laidAll, laidAll-other, laidAll-caps, packed-all, packed-blocks}
-use Rattle.model.proofs.Rebuilt.{mem-keep}
+use Rattle.laws.proofs.Wf.{Distinct}
+use Rattle.laws.proofs.Basics.{live-below, live-node}
+use Rattle.laws.proofs.Membership.{mem-map}
+use Rattle.laws.proofs.Laid.{rangeOf, Packed, laidAll, laidAll-other, laidAll-caps, packed-all, packed-blocks}
+use Rattle.laws.proofs.Rebuilt.{mem-keep}
 use Rattle.memory.proofs.Written.{sameWhich-true}
 use Rattle.walks.specs.Order.{Walkable}
 use Rattle.walks.proofs.Walkable.{live-of, rules-walkable}

@@ -2,43 +2,31 @@
 -- Assumes nothing.
 use mathlib.Core.Path.{_≡_, refl, ap, _∙_}
 use mathlib.Core.Bool.{true, false}
-use mathlib.Core.List.{List, _++_}
-use Prim.Native.Nat.{ℕ, _+_, _-_, _≤_}
+use mathlib.Core.List.{List}
+use Prim.Native.Nat.{ℕ, _+_, _≤_}
 use native.Mathlib.Omega.{arith}
-use lib.ListN.{length, take, drop, replicate, length-append, length-replicate}
-use Rattle.words.specs.Parts.{put}
-use Rattle.words.proofs.Parts.{returned}
+use lib.ListN.{length, drop, replicate, length-append, length-replicate}
 use Rattle.blocks.specs.Arena.{arenaWords}
 use Rattle.blocks.specs.Compact.{copied}
 use Rattle.blocks.proofs.Copies.{copied-limit}
 use Rattle.model.specs.Kinds.{Which, children, attributes, namespaces, sameWhich}
-use Rattle.memory.specs.declared.layout.Document.{Document}
-use Rattle.memory.specs.Layout.{limitsOf, entriesOf, arenaAt, documentWords, memoryOk}
+use Rattle.layout.specs.declared.Document.{Document}
+use Rattle.layout.specs.Layout.{limitsOf, entriesOf, documentWords, memoryOk}
 use Rattle.memory.specs.Decode.{slotsPart, arenaPart}
 use Rattle.memory.specs.Writing.{putArena}
-use Rattle.memory.proofs.Limits.{sizes}
+use Rattle.layout.proofs.Sizes.{sizes}
 use Rattle.memory.proofs.Shaped.{length-arenaPart}
 use Rattle.memory.proofs.Written.{length-putArena, slotsPart-putArena, arenaPart-putArena, arenaPart-putArena-other, memory-kept}
-use Rattle.memory.proofs.Arenas.{arena-lent}
 use Rattle.memory.proofs.Kept.{TextsKept, kept-again, putArena-texts}
 use Rattle.compaction.specs.declared.copy.Lengths.{Lengths}
 use Rattle.compaction.specs.Copies.{lengthOf, arenaReplaced, arenasReplaced}
 use Rattle.memory.proofs.Past.{arena-past}
 
--- the part of an arena, lent and returned with the copies over the ids
-pub blocks-replaced : (d : Document) (w : Which) (mem : List ℕ) → memoryOk d (length mem) ≡ true → (limit start : ℕ) → limit ≡ entriesOf (d .limits) w → start ≡ arenaAt (limitsOf (d .limits)) w
-    → (used : Lengths) (count : ℕ) → count ≡ lengthOf used w → (ys : List ℕ) → length ys ≡ length (take (start + (limit + limit) - start) (drop start mem))
-    → ys ≡ arenaWords (copied limit count (take (start + (limit + limit) - start) (drop start mem)))
-    → take start mem ++ (ys ++ drop (start + (limit + limit) - start) (drop start mem)) ≡ arenaReplaced d w used mem
-unfolding arenaReplaced putArena
-blocks-replaced d w mem ok limit start el es used count eu ys k b =
-    let E = entriesOf (d .limits) w in
-    let S = arenaAt (limitsOf (d .limits)) w in
-    let a = arena-lent d w mem limit start el es in
-    let words : ys ≡ arenaWords (copied E (lengthOf used w) (arenaPart d w mem)) =
-    b ∙ ap (λ (x : List ℕ). arenaWords (copied limit count x)) a ∙ ap (λ (n : ℕ). arenaWords (copied n count (arenaPart d w mem))) el ∙ ap (λ (n : ℕ). arenaWords (copied E n (arenaPart d w mem))) eu in
-    let long : length ys ≡ E + E = k ∙ ap length a ∙ length-arenaPart d mem ok w in
-    rw (el, es) (returned mem ys S (E + E) long) ∙ ap (λ (x : List ℕ). put S x mem) words
+-- the copies over the ids of an arena
+pub blocks-replaced : (d : Document) (w : Which) (mem : List ℕ) (used : Lengths) (count : ℕ) → count ≡ lengthOf used w → (mem′ : List ℕ)
+    → mem′ ≡ putArena d w (arenaWords (copied (entriesOf (d .limits) w) count (arenaPart d w mem))) mem → mem′ ≡ arenaReplaced d w used mem
+unfolding arenaReplaced
+blocks-replaced d w mem used count eu mem′ e = e ∙ ap (λ (n : ℕ). putArena d w (arenaWords (copied (entriesOf (d .limits) w) n (arenaPart d w mem))) mem) eu
 
 module _ (d : Document) (used : Lengths) (fits : (w : Which) → lengthOf used w ≤ entriesOf (d .limits) w) where
   -- ---- one arena

@@ -13,15 +13,15 @@ use Rattle.words.specs.Parts.{put}
 use Rattle.words.proofs.Tests.{and-left, and-right}
 use Rattle.blocks.specs.Compact.{copied}
 use Rattle.blocks.proofs.Copies.{copied-none}
-use Rattle.slots.specs.Handles.{handleIndex}
+use Rattle.records.specs.Handles.{handleIndex}
 use Rattle.model.specs.Kinds.{Which, children, attributes, namespaces}
 use Rattle.model.specs.Doc.{Doc, liveSlot, handleAt, parentIn, listIn, isNone}
 use Rattle.model.specs.Rules.{Rules}
 use Rattle.model.specs.Edits.{layingFrom}
-use Rattle.memory.specs.declared.layout.Document.{Document}
-use Rattle.memory.specs.Layout.{limitsOf, entriesOf, memoryOk}
+use Rattle.layout.specs.declared.Document.{Document}
+use Rattle.layout.specs.Layout.{limitsOf, entriesOf, memoryOk}
 use Rattle.memory.specs.Decode.{slotsMade, arenaPart, arenaUsed, arenaIn, decode}
-use Rattle.memory.proofs.Limits.{limits-fit, memory-limits, sizes}
+use Rattle.layout.proofs.Sizes.{limits-fit, memory-limits, sizes}
 use Rattle.memory.proofs.Shaped.{length-arenaPart, length-ids, length-caps}
 use Rattle.walks.specs.Order.{ListHeld}
 use Rattle.compaction.specs.declared.copy.Lengths.{Lengths}

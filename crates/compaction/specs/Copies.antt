@@ -1,24 +1,24 @@
 -- Arenas being rebuilt in place: the copies of lists stand in the capacity words, so that the ids can be read until the end.
 use mathlib.Core.Path.{_≡_}
-use mathlib.Core.Bool.{true, false, cond}
+use mathlib.Core.Bool.{true, cond}
 use mathlib.Core.List.{List, [], _∷_}
 use mathlib.Core.Option.{none}
 use Prim.Native.Nat.{ℕ, suc, _+_, _≤_}
 use lib.ListN.{length, getD, drop}
 use Rattle.words.specs.Lists.{joined, keep, tabulate}
 use Rattle.blocks.specs.Arena.{Arena, Block, arenaWords}
-use Rattle.blocks.specs.Compact.{copied, BlockCopied}
-use Rattle.slots.specs.Handles.{handleIndex}
+use Rattle.blocks.specs.Compact.{copied}
+use Rattle.records.specs.Handles.{handleIndex}
 use Rattle.model.specs.Kinds.{Which, children, attributes, namespaces, isElement}
-use Rattle.model.specs.Doc.{Doc, generationAt, liveSlot, handleAt, kindIn, kindAt, parentIn, parentAt, rangeIn, listIn, listAt, even, isNone, isSome, hasList}
+use Rattle.model.specs.Doc.{Doc, changeNodes, changeArenas, generationAt, liveSlot, handleAt, kindIn, kindAt, parentIn, parentAt, rangeIn, listIn, listAt, even, isNone, isSome, hasList}
 use Rattle.model.specs.Rules.{Rules, hasRange}
 use Rattle.model.specs.Edits.{Laying, updateWhich, walk, layList, layAll, layingFrom}
-use Rattle.memory.specs.declared.layout.Counts.{Counts}
-use Rattle.memory.specs.declared.layout.Document.{Document}
-use Rattle.memory.specs.Layout.{limitsOf, entriesOf, documentWords, memoryOk}
+use Rattle.layout.specs.declared.Counts.{Counts}
+use Rattle.layout.specs.declared.Document.{Document}
+use Rattle.layout.specs.Layout.{limitsOf, entriesOf, documentWords, memoryOk}
 use Rattle.memory.specs.Decode.{arenaPart, arenaIn, decode}
-use Rattle.memory.specs.Writing.{putArena, recordWith}
-use Rattle.memory.specs.Entries.{lengthsWith}
+use Rattle.memory.specs.Writing.{putArena}
+use Rattle.layout.specs.Record.{lengthsWith, withLengths}
 use Rattle.compaction.specs.declared.copy.Lengths.{Lengths}
 
 abbrev pub lengthOf : Lengths → Which → ℕ
@@ -41,21 +41,7 @@ countsRebuilt c l = lengthsWith c (l .children) (l .attributes) (l .namespaces)
 
 -- a document with other ranges and arenas
 abbrev pub withBlocks : Doc → (Which → List Block) → (Which → Arena) → Doc
-withBlocks d ranges arenas = record {
-  limits = d .limits;
-  gens = d .gens;
-  free = d .free;
-  kinds = d .kinds;
-  parents = d .parents;
-  ranges = ranges;
-  arenas = arenas;
-  order = d .order;
-  current = d .current;
-  pool = d .pool;
-  names = d .names;
-  countsFit = d .countsFit;
-  lengthsFit = d .lengthsFit;
-}
+withBlocks d ranges arenas = changeArenas (changeNodes d (d .kinds) (d .parents) ranges) arenas
 
 -- what the copies in memory make up, with the ranges there
 abbrev pub copiesIn : Document → List ℕ → Lengths → Which → Laying
@@ -72,13 +58,6 @@ pub record Copies (d : Document) (mem mem′ : List ℕ) (used : Lengths) (a : W
   pub document : decode d mem′ ≡ withBlocks (decode d mem) (λ w. a w .ranges) (λ w. arenaIn d w mem′)
   pub ids : (w : Which) → arenaIn d w mem′ .ids ≡ arenaIn d w mem .ids
   pub copies : (w : Which) → copied (entriesOf (d .limits) w) (lengthOf used w) (arenaPart d w mem′) ≡ a w .arena
-
--- a block of an arena copied: the words of the arena then, and no other word changed
-pub record ArenaCopied (d : Document) (mem mem′ : List ℕ) (w : Which) (used start len : ℕ) : Type 0 where
-  pub words : List ℕ
-  pub long : length words ≡ entriesOf (d .limits) w + entriesOf (d .limits) w
-  pub memory : mem′ ≡ putArena d w words mem
-  pub block : BlockCopied (arenaPart d w mem) words (entriesOf (d .limits) w) used start len
 
 -- what is asked before a list is copied: a live owner that has such a block, which lies in the arena and has room behind the copies
 pub record Layable (d : Document) (mem : List ℕ) (w : Which) (s : ℕ) (used : ℕ) : Type 0 where
@@ -112,7 +91,7 @@ arenasReplaced d used mem = arenaReplaced d namespaces used (arenaReplaced d att
 
 -- the record then; the order is not current any more
 abbrev pub lengthsRebuilt : Document → Lengths → Document
-lengthsRebuilt d used = recordWith d (countsRebuilt (d .counts) used) false
+lengthsRebuilt d used = withLengths d (used .children) (used .attributes) (used .namespaces)
 
 -- ---- the trees of the first slots
 

@@ -1,4 +1,4 @@
 // Compaction: the arenas are rebuilt in place, list by list in the order of the trees, and the order is renewed.
 pub mod copy;
 pub mod rebuild;
-pub mod tree;
+pub mod trees;

@@ -7,7 +7,7 @@ ghost use Rattle.model.specs.Kinds.{Which};
 ghost use Rattle.model.specs.Rules.{Rules};
 ghost use Rattle.model.specs.Edits.{rebuildArenas};
 ghost use Rattle.model.specs.Calls.{compact, done};
-ghost use Rattle.memory.specs.Layout.{whichOf, entriesOf, memoryOk, buffersOk};
+ghost use Rattle.layout.specs.Layout.{whichOf, entriesOf, memoryOk, buffersOk};
 ghost use Rattle.memory.specs.Decode.{decode};
 ghost use Rattle.memory.specs.Undamaged.{Undamaged};
 ghost use Rattle.memory.specs.Step.{Step};
@@ -15,12 +15,9 @@ ghost use Rattle.memory.specs.Performed.{Performed};
 ghost use Rattle.compaction.specs.Copies.{lengthOf, arenaReplaced, arenasReplaced, lengthsRebuilt};
 use crate::copy::Lengths;
 use crate::copy::length_in;
-use crate::tree::lay_trees;
-use memory::layout::Arena;
-use memory::layout::Counts;
-use memory::layout::Document;
-use memory::layout::arena_at;
-use memory::layout::arena_limit;
+use crate::trees::lay_trees;
+use layout::Arena;
+use layout::Document;
 use walks::order::renew_order;
 
 // The copies in an arena replace the ids.
@@ -29,35 +26,14 @@ fn replace_blocks(d: Document, mem: &mut [u64], arena: Arena, used: Lengths)
     ensures { λ _. ⌜ now (mem .exit) ≡ arenaReplaced d (whichOf arena) used (now (mem .entry)) ⌝ }
 {
     let count = length_in(used, arena);
-    let limit = arena_limit(d.limits, arena);
-    let start = arena_at(d.limits, arena);
-    let end = start + (limit + limit);
-    blocks::compact::replace_blocks(&mut mem[start..end], limit, count);
+    memory::parts::replace_blocks(d, mem, arena, count);
 }
 
 // The record with the new lengths of the arenas.
 fn with_lengths(d: Document, used: Lengths) -> Document
     ensures { λ r. ⌜ r ≡ lengthsRebuilt d used ⌝ }
 {
-    let limits = d.limits;
-    let c = d.counts;
-    let counts = Counts {
-        slots: c.slots,
-        free: c.free,
-        children: used.children,
-        attributes: used.attributes,
-        namespaces: used.namespaces,
-        texts: c.texts,
-        freetexts: c.freetexts,
-        textbytes: c.textbytes,
-        names: c.names,
-        namebytes: c.namebytes,
-    };
-    Document {
-        limits,
-        counts,
-        current: false,
-    }
+    layout::record::with_lengths(d, used.children, used.attributes, used.namespaces)
 }
 
 // The copies in all arenas replace the ids.

@@ -6,16 +6,16 @@ use mathlib.Core.List.{List}
 use Prim.Native.Nat.{ℕ}
 use lib.ListN.{length}
 use Rattle.model.specs.declared.Refusal.the-variants.{BadBuffers}
-use Rattle.memory.specs.declared.layout.Document.{Document}
-use Rattle.memory.specs.Layout.{memoryOk}
+use Rattle.layout.specs.declared.Document.{Document}
+use Rattle.layout.specs.Layout.{memoryOk}
 use Rattle.memory.specs.Decode.{decode}
-use Rattle.descendants.specs.declared.position.Position.{Position}
-use Rattle.descendants.specs.declared.position.Walked.{Walked}
+use Rattle.steps.specs.declared.position.Position.{Position}
+use Rattle.steps.specs.declared.position.Walked.{Walked}
 use Rattle.descendants.specs.declared.walk.WalkAnswer.{WalkAnswer}
 use Rattle.descendants.specs.declared.walk.WalkAnswer.the-variants as walkAnswer
 use Rattle.descendants.specs.declared.walk.NextAnswer.{NextAnswer}
 use Rattle.descendants.specs.declared.walk.NextAnswer.the-variants as nextAnswer
-use Rattle.descendants.specs.Walking.{start, next}
+use Rattle.steps.specs.Next.{start, next}
 use Rattle.descendants.specs.Contract.{told, startsOf, nextOf}
 
 module _ (d : Document) (mem : List ℕ) (t : Bool) (e : t ≡ memoryOk d (length mem)) where

@@ -13,17 +13,18 @@ use Rattle.words.specs.Lists.{all}
 use Rattle.words.proofs.Tests.{and-left}
 use Rattle.model.specs.Kinds.{children}
 use Rattle.model.specs.declared.Refusal.the-variants.{BadBuffers}
-use Rattle.memory.specs.declared.layout.Document.{Document}
-use Rattle.memory.specs.Layout.{memoryOk}
+use Rattle.layout.specs.declared.Document.{Document}
+use Rattle.layout.specs.Layout.{memoryOk}
 use Rattle.memory.specs.Decode.{decode}
 use Rattle.model.specs.Doc.{Doc, resolves, parentAt, shownList, anyOption, mapOption}
-use Rattle.descendants.specs.declared.position.Position.{Position}
-use Rattle.descendants.specs.declared.position.Walked.{Walked}
-use Rattle.descendants.specs.declared.position.Walked.the-variants.{At, End}
-use Rattle.descendants.specs.declared.step.Sought.the-variants as seeks
+use Rattle.steps.specs.declared.position.Position.{Position}
+use Rattle.steps.specs.declared.position.Walked.{Walked}
+use Rattle.steps.specs.declared.position.Walked.the-variants.{At, End}
+use Rattle.steps.specs.declared.step.Sought.the-variants as seeks
 use Rattle.descendants.specs.declared.walk.NextAnswer.{NextAnswer}
 use Rattle.descendants.specs.declared.walk.NextAnswer.the-variants as nextAnswer
-use Rattle.descendants.specs.Walking.{hintFor, withHint, hintedIndex, namesParent, visitEntry, outcome, seekUnder, parentBelow, seek, resumed, following, successor, next, start, listed, listFrom, walked, more, lookedUnder, looked}
+use Rattle.steps.specs.Next.{hintFor, withHint, hintedIndex, namesParent, visitEntry, outcome, seekUnder, parentBelow, seek, resumed, following, successor, next, start}
+use Rattle.descendants.specs.Walking.{listed, listFrom, walked, more, lookedUnder, looked}
 use Rattle.descendants.specs.Contract.{startsOf, told, nextOf, nodesOf, nextUntilEnd, walkOf}
 use Rattle.descendants.specs.Claim.{StaleStart, Lent, Seen, seen, along, Limited, FromAnywhere, OneStep}
 

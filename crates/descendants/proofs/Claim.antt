@@ -8,8 +8,8 @@ use Prim.Native.Nat.{ℕ, _≤_}
 use borrow.Author.Tests.{le-leb}
 use lib.ListN.{length, length-map}
 use Rattle.words.specs.Parts.{put}
-use Rattle.memory.specs.declared.layout.Document.{Document}
-use Rattle.memory.specs.Layout.{memoryOk}
+use Rattle.layout.specs.declared.Document.{Document}
+use Rattle.layout.specs.Layout.{memoryOk}
 use Rattle.memory.specs.Decode.{decode}
 use Rattle.reading.specs.declared.answers.NodesAnswer.{NodesAnswer}
 use Rattle.reading.specs.declared.answers.NodesAnswer.the-variants.{Count}

@@ -12,9 +12,9 @@ use lib.Dec.{eqb, ltb}
 use lib.ListN.{length, getD, drop}
 use Rattle.words.specs.Lists.{indexOf}
 use Rattle.words.proofs.Tests.{and-left, and-right}
-use Rattle.model.proofs.Wf.{Distinct}
-use Rattle.model.proofs.Counting.{mem-getD}
-use Rattle.descendants.specs.Walking.{hintedIndex}
+use Rattle.laws.proofs.Wf.{Distinct}
+use Rattle.laws.proofs.Counting.{mem-getD}
+use Rattle.steps.specs.Next.{hintedIndex}
 
 -- what stands behind x
 abbrev pub behind : ℕ → List ℕ → List ℕ

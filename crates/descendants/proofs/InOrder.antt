@@ -7,7 +7,7 @@ use Prim.Native.Nat.{ℕ, zero, suc}
 use Rattle.words.specs.Lists.{joined, keep}
 use Rattle.model.specs.Kinds.{Which, children, attributes, namespaces, sameWhich, whichOf}
 use Rattle.model.specs.Tree.{Tree, inOrder}
-use Rattle.model.proofs.Wf.{WF}
+use Rattle.laws.proofs.Wf.{WF}
 use Rattle.descendants.specs.Walking.{below, descendants}
 
 module _ {A : Type 0} (p : A → Bool) where

@@ -2,7 +2,6 @@ pub mod Hints
 pub mod Stack
 pub mod Walks
 pub mod Anywhere
-pub mod Stepping
 pub mod Listing
 pub mod Answered
 pub mod InOrder

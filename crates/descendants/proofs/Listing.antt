@@ -11,15 +11,16 @@ use Rattle.words.specs.Parts.{put}
 use Rattle.words.proofs.Parts.{put-nil, set-put-after}
 use Rattle.model.specs.declared.Refusal.the-variants.{BadBuffers}
 use Rattle.model.specs.Doc.{Doc, resolves}
-use Rattle.memory.specs.declared.layout.Document.{Document}
+use Rattle.layout.specs.declared.Document.{Document}
 use Rattle.memory.specs.Decode.{decode}
 use Rattle.reading.specs.declared.answers.NodesAnswer.{NodesAnswer}
 use Rattle.reading.specs.declared.answers.NodesAnswer.the-variants.{Count, Refused}
 use Rattle.reading.specs.Contract.{nodesOk}
-use Rattle.descendants.specs.declared.position.Position.{Position}
-use Rattle.descendants.specs.declared.position.Walked.{Walked}
-use Rattle.descendants.specs.declared.position.Walked.the-variants.{At, End}
-use Rattle.descendants.specs.Walking.{successor, next, start, listed, listFrom, walked}
+use Rattle.steps.specs.declared.position.Position.{Position}
+use Rattle.steps.specs.declared.position.Walked.{Walked}
+use Rattle.steps.specs.declared.position.Walked.the-variants.{At, End}
+use Rattle.steps.specs.Next.{successor, next, start}
+use Rattle.descendants.specs.Walking.{listed, listFrom, walked}
 use Rattle.descendants.specs.Contract.{countBelow, writtenBelow}
 use Rattle.descendants.proofs.Anywhere.{next-tells, from-stale}
 

@@ -9,8 +9,8 @@ use Prim.Native.Nat.{ℕ}
 use native.Mathlib.Omega.{arith}
 use Rattle.model.specs.Kinds.{children}
 use Rattle.model.specs.Tree.{Tree}
-use Rattle.model.proofs.Wf.{Ends, WF}
-use Rattle.model.proofs.Climb.{Below, steps-up, steps-unique, below-steps}
+use Rattle.laws.proofs.Wf.{Ends, WF}
+use Rattle.laws.proofs.Climb.{Below, steps-up, steps-unique, below-steps}
 use Rattle.descendants.proofs.Hints.{behind}
 
 module _ (t : Tree) (z : ℕ) where

@@ -16,22 +16,23 @@ use Rattle.model.specs.Kinds.{children}
 use Rattle.model.specs.Doc.{Doc, resolves, shownList, shownParent, mapOption, anyOption}
 use Rattle.model.specs.Edits.{walk}
 use Rattle.model.specs.Tree.{Tree}
-use Rattle.model.proofs.Wf.{Distinct, Ends, WF}
-use Rattle.model.proofs.Sim.{Sim}
-use Rattle.model.proofs.Basics.{resolves-live, hs-injective, count-mem}
-use Rattle.model.proofs.Counting.{mem-getD, count-once}
-use Rattle.model.proofs.Nested.{nested}
-use Rattle.model.proofs.Membership.{distinct-map, distinct-joined, mem-joined-cases}
-use Rattle.model.proofs.Explained.{shown-list}
-use Rattle.model.proofs.Climb.{Below, path, path-distinct, path-live, length-path, steps, steps-up, steps-unique, some-steps}
-use Rattle.model.proofs.Cycle.{slots-enough}
-use Rattle.model.proofs.Walk.{visit, Tall, tall, visited, visit-distinct, walk-is-visit}
-use Rattle.descendants.specs.declared.position.Position.{Position}
-use Rattle.descendants.specs.declared.position.Walked.{Walked}
-use Rattle.descendants.specs.declared.position.Walked.the-variants.{At, End}
-use Rattle.descendants.specs.declared.step.Sought.{Sought}
-use Rattle.descendants.specs.declared.step.Sought.the-variants as seeks
-use Rattle.descendants.specs.Walking.{hintFor, withHint, hintedIndex, namesParent, visitEntry, outcome, seek, resumed, following, next, start, listed, listFrom, walked, below, descendants}
+use Rattle.laws.proofs.Wf.{Distinct, Ends, WF}
+use Rattle.laws.proofs.Sim.{Sim}
+use Rattle.laws.proofs.Basics.{resolves-live, hs-injective, count-mem}
+use Rattle.laws.proofs.Counting.{mem-getD, count-once}
+use Rattle.laws.proofs.Nested.{nested}
+use Rattle.laws.proofs.Membership.{distinct-map, distinct-joined, mem-joined-cases}
+use Rattle.laws.proofs.Explained.{shown-list}
+use Rattle.laws.proofs.Climb.{Below, path, path-distinct, path-live, length-path, steps, steps-up, steps-unique, some-steps}
+use Rattle.laws.proofs.Cycle.{slots-enough}
+use Rattle.laws.proofs.Walk.{visit, Tall, tall, visited, visit-distinct, walk-is-visit}
+use Rattle.steps.specs.declared.position.Position.{Position}
+use Rattle.steps.specs.declared.position.Walked.{Walked}
+use Rattle.steps.specs.declared.position.Walked.the-variants.{At, End}
+use Rattle.steps.specs.declared.step.Sought.{Sought}
+use Rattle.steps.specs.declared.step.Sought.the-variants as seeks
+use Rattle.steps.specs.Next.{hintFor, withHint, hintedIndex, namesParent, visitEntry, outcome, seek, resumed, following, next, start}
+use Rattle.descendants.specs.Walking.{listed, listFrom, walked, below, descendants}
 use Rattle.descendants.proofs.Hints.{behind, hinted-is, index-map, behind-cons, behind-nil, behind-first}
 use Rattle.descendants.proofs.Stack.{up, strict}
 

@@ -12,14 +12,14 @@ use Rattle.model.specs.Kinds.{children, whichOf, sameWhich}
 use Rattle.model.specs.Doc.{Doc, rootHandle, resolves}
 use Rattle.model.specs.Calls.{done}
 use Rattle.model.specs.Tree.{Tree, seed, inOrder}
-use Rattle.memory.specs.declared.layout.Document.{Document}
-use Rattle.memory.specs.declared.layout.Limits as given
-use Rattle.memory.specs.Layout.{memoryOk}
+use Rattle.layout.specs.declared.Document.{Document}
+use Rattle.layout.specs.declared.Limits as given
+use Rattle.layout.specs.Layout.{memoryOk}
 use Rattle.memory.specs.Decode.{decode}
 use Rattle.reading.specs.declared.answers.NodesAnswer.the-variants.{Count}
 use Rattle.tree.specs.Contract.{Starts}
 use Rattle.tree.specs.Claim.{Event, Called, Tells, lastRecord, lastMemory, treeEnd}
-use Rattle.descendants.specs.declared.position.Position.{Position}
+use Rattle.steps.specs.declared.position.Position.{Position}
 use Rattle.descendants.specs.declared.walk.NextAnswer.{NextAnswer}
 use Rattle.descendants.specs.declared.walk.NextAnswer.the-variants as nextAnswer
 use Rattle.descendants.specs.Walking.{descendants, walked, looked}

@@ -7,20 +7,21 @@ use lib.ListN.{length}
 use Rattle.words.specs.Parts.{put}
 use Rattle.model.specs.declared.Refusal.the-variants.{BadBuffers}
 use Rattle.model.specs.Doc.{mapOption}
-use Rattle.memory.specs.declared.layout.Document.{Document}
-use Rattle.memory.specs.Layout.{memoryOk}
+use Rattle.layout.specs.declared.Document.{Document}
+use Rattle.layout.specs.Layout.{memoryOk}
 use Rattle.memory.specs.Decode.{decode}
 use Rattle.reading.specs.declared.answers.NodesAnswer.{NodesAnswer}
 use Rattle.reading.specs.declared.answers.NodesAnswer.the-variants as nodesAnswer
 use Rattle.reading.specs.Contract.{nodesOk}
-use Rattle.descendants.specs.declared.position.Position.{Position}
-use Rattle.descendants.specs.declared.position.Walked.{Walked}
-use Rattle.descendants.specs.declared.position.Walked.the-variants as walks
+use Rattle.steps.specs.declared.position.Position.{Position}
+use Rattle.steps.specs.declared.position.Walked.{Walked}
+use Rattle.steps.specs.declared.position.Walked.the-variants as walks
 use Rattle.descendants.specs.declared.walk.WalkAnswer.{WalkAnswer}
 use Rattle.descendants.specs.declared.walk.WalkAnswer.the-variants as walkAnswer
 use Rattle.descendants.specs.declared.walk.NextAnswer.{NextAnswer}
 use Rattle.descendants.specs.declared.walk.NextAnswer.the-variants as nextAnswer
-use Rattle.descendants.specs.Walking.{start, next, walked}
+use Rattle.steps.specs.Next.{start, next}
+use Rattle.descendants.specs.Walking.{walked}
 
 -- `descendants_of`
 unfoldable pub startsOf : Document → List ℕ → ℕ → WalkAnswer

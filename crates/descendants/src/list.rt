@@ -4,19 +4,19 @@ ghost use mathlib.Core.Bool.{true};
 ghost use Prim.Native.Nat.{_≤_};
 ghost use lib.ListN.{length};
 ghost use Rattle.words.specs.Parts.{put};
-ghost use Rattle.slots.specs.Handles.{wordOf};
+ghost use Rattle.records.specs.Handles.{wordOf};
 ghost use Rattle.model.specs.Doc.{resolves};
-ghost use Rattle.memory.specs.Layout.{memoryOk};
+ghost use Rattle.layout.specs.Layout.{memoryOk};
 ghost use Rattle.memory.specs.Decode.{decode};
 ghost use Rattle.descendants.specs.Walking.{walked};
 ghost use Rattle.descendants.specs.Contract.{countBelow, writtenBelow};
-use crate::position::Walked;
-use crate::position::start;
-use crate::step::successor;
-use memory::layout::Document;
+use layout::Document;
 use model::Refusal;
 use reading::answers::NodesAnswer;
-use slots::NodeId;
+use records::NodeId;
+use steps::position::Walked;
+use steps::position::start;
+use steps::step::successor;
 
 // Of a node that resolves; so does each node listed, and no step tests the one before it again.
 fn write_live(d: Document, mem: &[u64], zone: u64, out: &mut [u64]) -> usize
@@ -29,7 +29,7 @@ fn write_live(d: Document, mem: &[u64], zone: u64, out: &mut [u64]) -> usize
     let mut at = start(nodes, zone);
     let mut count = 0;
     while count < nodes {
-        match successor(d, mem, at, slots::handle::id_of(at.node)) {
+        match successor(d, mem, at, records::handle::id_of(at.node)) {
             Walked::End => return count,
             Walked::At(next) => {
                 out[count] = next.node;
@@ -47,7 +47,7 @@ fn write_below(d: Document, mem: &[u64], id: NodeId, out: &mut [u64]) -> usize
     ensures { λ _. ⌜ now (out .exit) ≡ put 0 (walked (decode d (now (mem .entry))) (wordOf id)) (now (out .entry)) ⌝ }
 {
     if memory::read::resolves(d, mem, id) {
-        return write_live(d, mem, slots::handle::word_of(id), out);
+        return write_live(d, mem, records::handle::word_of(id), out);
     }
     0
 }

@@ -2,14 +2,14 @@
 ghost use mathlib.Core.Path.{_≡_};
 ghost use lib.ListN.{length};
 ghost use Rattle.descendants.specs.Contract.{told, startsOf, nextOf};
-ghost use Rattle.slots.specs.Handles.{wordOf};
-use crate::position::Position;
-use crate::position::Walked;
-use crate::position::start;
-use crate::step::step;
-use memory::layout::Document;
+ghost use Rattle.records.specs.Handles.{wordOf};
+use layout::Document;
 use model::Refusal;
-use slots::NodeId;
+use records::NodeId;
+use steps::position::Position;
+use steps::position::Walked;
+use steps::position::start;
+use steps::step::step;
 
 // A position to go on from.
 pub enum WalkAnswer {
@@ -37,9 +37,9 @@ fn told(w: Walked) -> NextAnswer
 pub fn descendants_of(d: Document, mem: &[u64], id: NodeId) -> WalkAnswer
     ensures { λ r. ⌜ r ≡ startsOf d (now (mem .entry)) (wordOf id) ⌝ }
 {
-    if memory::layout::memory_ok(d, mem.len()) {
+    if layout::memory_ok(d, mem.len()) {
         let l = d.limits;
-        WalkAnswer::From(start(l.nodes, slots::handle::word_of(id)))
+        WalkAnswer::From(start(l.nodes, records::handle::word_of(id)))
     } else {
         WalkAnswer::Refused(Refusal::BadBuffers)
     }
@@ -49,7 +49,7 @@ pub fn descendants_of(d: Document, mem: &[u64], id: NodeId) -> WalkAnswer
 pub fn next(d: Document, mem: &[u64], at: Position) -> NextAnswer
     ensures { λ r. ⌜ r ≡ nextOf d (now (mem .entry)) at ⌝ }
 {
-    if memory::layout::memory_ok(d, mem.len()) {
+    if layout::memory_ok(d, mem.len()) {
         told(step(d, mem, at))
     } else {
         NextAnswer::Refused(Refusal::BadBuffers)

@@ -1,10 +1,10 @@
 // The walker holds the lent arena and its own position.
 ghost use mathlib.Core.Path.{_≡_};
 ghost use Rattle.descendants.specs.Contract.{nextOf};
-use crate::position::Position;
 use crate::walk::NextAnswer;
 use crate::walk::next;
-use memory::layout::Document;
+use layout::Document;
+use steps::position::Position;
 
 // `ids` is the lent buffer whole: the ids of a list and the words that say where the next list lies stand in it side by side.
 pub struct Walker<'a> {

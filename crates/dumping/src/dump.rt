@@ -1,8 +1,8 @@
 // The whole state, region by region.
 ghost use mathlib.Core.Path.{_≡_};
-use memory::layout::Arena;
-use memory::layout::Counts;
-use memory::layout::Document;
+use layout::Arena;
+use layout::Counts;
+use layout::Document;
 use printing::show::put_name;
 use printing::show::put_range;
 use printing::show::words_between;
@@ -12,15 +12,15 @@ use printing::sink::put_hex;
 use printing::sink::put_joined;
 use printing::sink::put_number;
 use printing::sink::put_numbers;
-use slots::Chars;
-use slots::Loaded;
-use slots::NameId;
-use slots::Node;
-use slots::NodeData;
-use slots::NodeSlot;
-use slots::Parent;
-use slots::Range;
-use slots::TextSlot;
+use records::Chars;
+use records::Loaded;
+use records::Node;
+use records::NodeData;
+use records::Parent;
+use records::Range;
+use words::NameId;
+use words::NodeSlot;
+use words::TextSlot;
 
 // A word, ` name=`, and a count.
 fn put_count(out: &mut [u8], at: usize, name: &[u8], count: usize) -> usize {
@@ -184,14 +184,13 @@ fn put_blocks(d: Document, mem: &[u64], node: Node, out: &mut [u8], at: usize) -
 }
 
 // The node in a slot, with its generation even.
-fn node_at(d: Document, mem: &[u64], slot: usize, generation: u64) -> Loaded {
+fn node_at(d: Document, mem: &[u64], slot: NodeSlot, generation: u64) -> Loaded {
     if generation % 2 == 0 {
-        if memory::layout::memory_ok(d, mem.len()) {
+        if layout::memory_ok(d, mem.len()) {
             let l = d.limits;
-            if slot < l.nodes {
-                if slot < 4294967296 {
-                    return memory::read::load(d, mem, NodeSlot(slot as u32));
-                }
+            let s = slot.0;
+            if (s as usize) < l.nodes {
+                return memory::read::load(d, mem, slot);
             }
         }
     }
@@ -209,12 +208,13 @@ fn put_node(d: Document, mem: &[u64], node: Node, out: &mut [u8], at: usize) -> 
 fn slot_line(
     d: Document,
     mem: &[u64],
-    slot: usize,
+    slot: NodeSlot,
     generation: u64,
     out: &mut [u8],
     at: usize,
 ) -> usize {
-    let number = put_count(out, at, b"slot ", slot);
+    let s = slot.0;
+    let number = put_count(out, at, b"slot ", s as usize);
     let space = put(out, number, b" ");
     let mark = put_number(out, space, generation);
     match node_at(d, mem, slot, generation) {
@@ -226,12 +226,14 @@ fn slot_line(
     }
 }
 
+// No more than have a number of 32 bits, here and of texts and names.
 fn slot_lines(d: Document, mem: &[u64], out: &mut [u8], at: usize) -> usize {
     let generations = words_between(mem, 0, memory::read::made(d));
+    let n = words::least(generations.len(), 4294967296);
     let mut next = at;
     let mut k = 0;
-    while k < generations.len() {
-        next = slot_line(d, mem, k, generations[k], out, next);
+    while k < n {
+        next = slot_line(d, mem, NodeSlot(k as u32), generations[k], out, next);
         k += 1;
     }
     next
@@ -254,16 +256,16 @@ fn words_from(words: &[u64], start: usize) -> &[u64] {
 
 // The words of the texts and names.
 fn text_words(d: Document, mem: &[u64]) -> &[u64] {
-    if memory::layout::limits_ok(d.limits) {
-        return words_from(mem, memory::layout::texts_at(d.limits));
+    if layout::limits_ok(d.limits) {
+        return words_from(mem, layout::texts_at(d.limits));
     }
     &mem[0..0]
 }
 
 // The words of an arena and of what lies behind it.
 fn arena_words(d: Document, mem: &[u64], arena: Arena) -> &[u64] {
-    if memory::layout::limits_ok(d.limits) {
-        return words_from(mem, memory::layout::arena_at(d.limits, arena));
+    if layout::limits_ok(d.limits) {
+        return words_from(mem, layout::arena_at(d.limits, arena));
     }
     &mem[0..0]
 }
@@ -282,42 +284,40 @@ fn free_lines(d: Document, mem: &[u64], out: &mut [u8], at: usize) -> usize {
 
 fn text_lines(d: Document, mem: &[u64], out: &mut [u8], at: usize) -> usize {
     let c = d.counts;
+    let n = words::least(c.texts, 4294967296);
     let mut next = at;
     let mut k = 0;
-    while k < c.texts {
-        next = text_line(d, mem, k, out, next);
+    while k < n {
+        next = text_line(d, mem, TextSlot(k as u32), out, next);
         k += 1;
     }
     next
 }
 
-fn text_line(d: Document, mem: &[u64], slot: usize, out: &mut [u8], at: usize) -> usize {
-    let number = put_count(out, at, b"text ", slot);
+fn text_line(d: Document, mem: &[u64], slot: TextSlot, out: &mut [u8], at: usize) -> usize {
+    let s = slot.0;
+    let number = put_count(out, at, b"text ", s as usize);
     let space = put(out, number, b" ");
-    if slot < 4294967296 {
-        let text = Chars::Expanded(TextSlot(slot as u32));
-        let last = put_hex(out, space, reading::text::text_bytes(d, mem, text));
-        return put(out, last, b"\n");
-    }
-    space
+    let text = Chars::Expanded(slot);
+    let last = put_hex(out, space, reading::text::text_bytes(d, mem, text));
+    put(out, last, b"\n")
 }
 
-fn name_line(d: Document, mem: &[u64], name: usize, out: &mut [u8], at: usize) -> usize {
-    let number = put_count(out, at, b"name ", name);
+fn name_line(d: Document, mem: &[u64], name: NameId, out: &mut [u8], at: usize) -> usize {
+    let n = name.0;
+    let number = put_count(out, at, b"name ", n as usize);
     let space = put(out, number, b" ");
-    if name < 4294967296 {
-        let last = put_name(d, mem, NameId(name as u32), out, space);
-        return put(out, last, b"\n");
-    }
-    space
+    let last = put_name(d, mem, name, out, space);
+    put(out, last, b"\n")
 }
 
 fn name_lines(d: Document, mem: &[u64], out: &mut [u8], at: usize) -> usize {
     let c = d.counts;
+    let n = words::least(c.names, 4294967296);
     let mut next = at;
     let mut k = 0;
-    while k < c.names {
-        next = name_line(d, mem, k, out, next);
+    while k < n {
+        next = name_line(d, mem, NameId(k as u32), out, next);
         k += 1;
     }
     next
@@ -353,7 +353,7 @@ fn caps_line(
     at: usize,
 ) -> usize {
     let mark = put(out, at, name);
-    let limit = memory::layout::arena_limit(d.limits, arena);
+    let limit = layout::arena_limit(d.limits, arena);
     let used = memory::read::arena_used(d, arena);
     let records = words_between(arena_words(d, mem, arena), limit, used);
     let last = put_records(out, mark, records);

@@ -11,19 +11,19 @@ use Rattle.model.specs.declared.Refusal.{Refusal}
 use Rattle.model.specs.Calls.{Call, Answered, refused, isRefusal, answers, step}
 use Rattle.model.specs.Calls as calls
 use Rattle.model.specs.RulesTest.{rulesHold}
-use Rattle.model.proofs.RulesTest.{rules-of-test}
+use Rattle.laws.proofs.RulesTest.{rules-of-test}
 use Rattle.words.proofs.Tests.{and-left}
-use Rattle.memory.specs.declared.layout.Document.{Document}
-use Rattle.memory.specs.Layout.{memoryOk, buffersOk}
+use Rattle.layout.specs.declared.Document.{Document}
+use Rattle.layout.specs.Layout.{memoryOk, buffersOk}
 use Rattle.memory.specs.Decode.{poolIn, namesIn, lengthsAdd, decode}
 use Rattle.memory.specs.Undamaged.{Undamaged}
 use Rattle.memory.specs.Performed.{Admitted, Performed}
 use Rattle.memory.proofs.Shaped.{shape}
-use Rattle.plans.specs.declared.verdict.Verdict.{Verdict}
-use Rattle.plans.specs.declared.verdict.Verdict.the-variants.{Accepted, Refused}
-use Rattle.plans.specs.Verdicts.{verdictNumber, refusalNumber}
+use Rattle.verdicts.specs.declared.verdict.Verdict.{Verdict}
+use Rattle.verdicts.specs.declared.verdict.Verdict.the-variants.{Accepted, Refused}
+use Rattle.verdicts.specs.Verdicts.{verdictNumber, refusalNumber}
 use Rattle.editing.specs.Contract.{outcome, admission, scratchAfter, Edits, Answers}
-use Rattle.plans.proofs.Refusing.{numbered}
+use Rattle.verdicts.proofs.Refusing.{numbered}
 use Rattle.editing.proofs.Numbers.{refusing, never-zero, refused-as}
 
 -- ---- behind test 4 and the structure check

@@ -7,9 +7,9 @@ use lib.Dec.{eqb}
 use Rattle.model.specs.Refusals.{numberOf}
 use Rattle.model.specs.declared.Refusal.{Refusal}
 use Rattle.model.specs.Calls.{Answered, refused, done, made, truth, node, listed, everyNode, kindIs, nameIs, key, keys}
-use Rattle.plans.specs.declared.verdict.Verdict.the-variants.{Refused}
-use Rattle.plans.specs.Verdicts.{refusalNumber}
-use Rattle.plans.proofs.Verdicts.{refused-some}
+use Rattle.verdicts.specs.declared.verdict.Verdict.the-variants.{Refused}
+use Rattle.verdicts.specs.Verdicts.{refusalNumber}
+use Rattle.verdicts.proofs.Verdicts.{refused-some}
 
 -- no refusal's number is 0
 pub never-zero : {P : Type 0} → (w : Refusal) → numberOf w ≡ 0 → P

@@ -3,12 +3,12 @@
 use mathlib.Core.Path.{_≡_, sym, ap, _∙_}
 use mathlib.Core.Option.{Option, none, some}
 use Prim.Native.Nat.{ℕ}
-use Rattle.slots.specs.Handles.{wordOf, idOf}
-use Rattle.slots.specs.declared.NodeId.{NodeId}
-use Rattle.slots.proofs.Handles.{wordOf-idOf}
-use Rattle.plans.specs.declared.search.Listed.{Listed}
-use Rattle.plans.specs.declared.search.Listed.the-variants.{At, Nowhere}
-use Rattle.plans.specs.Listed.{listedWord}
+use Rattle.records.specs.Handles.{wordOf, idOf}
+use Rattle.records.specs.declared.NodeId.{NodeId}
+use Rattle.records.proofs.Handles.{wordOf-idOf}
+use Rattle.lookup.specs.declared.search.Listed.{Listed}
+use Rattle.lookup.specs.declared.search.Listed.the-variants.{At, Nowhere}
+use Rattle.lookup.specs.Listed.{listedWord}
 
 module _ (l : Listed) (found : Option ℕ) (e : listedWord l ≡ found) where
   pub found-at : (w : ℕ) → l ≡ At w → (id : NodeId) → id ≡ idOf w → found ≡ some (wordOf id)

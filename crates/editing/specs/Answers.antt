@@ -2,10 +2,10 @@
 use mathlib.Core.Bool.{Bool}
 use mathlib.Core.List.{List}
 use Prim.Native.Nat.{ℕ}
-use Rattle.slots.specs.Handles.{wordOf}
+use Rattle.records.specs.Handles.{wordOf}
 use Rattle.model.specs.Refusals.{numberOf}
 use Rattle.model.specs.Calls.{Answered, refused, done, made, truth, keys}
-use Rattle.memory.specs.declared.layout.Document.{Document}
+use Rattle.layout.specs.declared.Document.{Document}
 use Rattle.reading.specs.Answers.{orderShown}
 use Rattle.editing.specs.declared.answers.DoneAnswer.{DoneAnswer}
 use Rattle.editing.specs.declared.answers.DoneAnswer.the-variants as doneAnswer

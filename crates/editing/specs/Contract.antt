@@ -6,8 +6,8 @@ use Prim.Native.Nat.{ℕ}
 use lib.ListN.{length, drop, replicate}
 use Rattle.model.specs.Calls.{Call, Answered, refused, isRefusal, Out, answers, step, append-element, append-text, append-comment, append-pi, set-text, set-attribute, remove-attribute, declare-namespace, remove, detach, reparent, insert-at, document-order, compact, root-of, kind-of, parent-of, children-of, root-element, is-element, name-of, attribute-nodes, namespace-nodes, nodes, order-key}
 use Rattle.model.specs.RulesTest.{rulesHold}
-use Rattle.memory.specs.declared.layout.Document.{Document}
-use Rattle.memory.specs.Layout.{limitsOf, documentWords, buffersOk}
+use Rattle.layout.specs.declared.Document.{Document}
+use Rattle.layout.specs.Layout.{limitsOf, documentWords, buffersOk}
 use Rattle.memory.specs.Decode.{decode}
 
 -- "Editing calls are the twelve under "Edits", `document_order` and `compact`."

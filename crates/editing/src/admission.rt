@@ -1,13 +1,13 @@
 // What comes before every plan: test 4, which touches no buffer, then the structure check.
 ghost use mathlib.Core.Path.{_≡_};
 ghost use lib.ListN.{length};
-ghost use Rattle.plans.specs.Verdicts.{verdictNumber};
+ghost use Rattle.verdicts.specs.Verdicts.{verdictNumber};
 ghost use Rattle.editing.specs.Contract.{admission, scratchAfter};
-use memory::layout::Document;
-use memory::layout::buffers_ok;
+use layout::Document;
+use layout::buffers_ok;
 use model::Refusal;
-use plans::verdict::Verdict;
 use structure::check::check_structure;
+use verdicts::verdict::Verdict;
 
 // BadBuffers, Damaged, or that the call may go on. Scratch is all zero after, save after BadBuffers.
 pub fn admit(d: Document, mem: &[u64], scratch: &mut [u64]) -> Verdict

@@ -1,6 +1,6 @@
 // What the editing calls answer: the record after, with what the call made or found, or a refusal, after which the record that the caller has stays good.
 use edits::born::NewNode;
-use memory::layout::Document;
+use layout::Document;
 use model::Refusal;
 
 // Done.

@@ -11,8 +11,8 @@ use Rattle.model.specs.Doc.{Doc, isNone, resolves, kindAt, nodeAt, viewAt, pair
 use Rattle.model.specs.Arguments.{first}
 use Rattle.model.specs.Checks.{View, container, anElement, aChild, aText}
 use Rattle.model.specs.Calls.{Call, Answered, Out, isRefusal, guarded, fullUnless, step}
-use Rattle.model.proofs.Guards.{first-zero, refuse-zero, not-false-true}
-use Rattle.memory.specs.declared.layout.Document.{Document}
+use Rattle.laws.proofs.Guards.{first-zero, refuse-zero, not-false-true}
+use Rattle.layout.specs.declared.Document.{Document}
 use Rattle.memory.specs.Decode.{decode}
 use Rattle.memory.specs.Step.{Step}
 use Rattle.memory.specs.Performed.{Performed}

@@ -14,8 +14,8 @@ use borrow.Author.Tests.{eq-eqb, eqb-true}
 use Rattle.words.proofs.Tests.{and-left}
 use Rattle.blocks.specs.Arena.{Arena, Block, block, hasRoom}
 use Rattle.blocks.specs.Rule.{Inside}
-use Rattle.slots.specs.Handles.{handleIndex}
-use Rattle.slots.proofs.Handles.{handleIndex-wordOf}
+use Rattle.records.specs.Handles.{handleIndex}
+use Rattle.records.proofs.Handles.{handleIndex-wordOf}
 use Rattle.texts.specs.Pool.{Pool}
 use Rattle.names.specs.Table.{Name}
 use Rattle.model.specs.Kinds.{Kind, root, Which}
@@ -23,10 +23,10 @@ use Rattle.model.specs.Doc.{Doc, even, isSome, orElse, generationAt, liveSlot, 
 use Rattle.model.specs.Rules.{Shape, hasRange}
 use Rattle.model.specs.Edits.{up, nextFrom, nextHandle, bornFrom, born, attach}
 use Rattle.model.specs.Calls.{appended}
-use Rattle.memory.specs.declared.layout.Document.{Document}
+use Rattle.layout.specs.declared.Document.{Document}
 use Rattle.memory.specs.Decode.{poolIn, namesIn, lengthsAdd, decode}
 use Rattle.memory.proofs.Columns.{length-gens}
-use Rattle.memory.proofs.Limits.{sizes}
+use Rattle.layout.proofs.Sizes.{sizes}
 use Rattle.memory.proofs.Shaped.{shape}
 use Rattle.memory.specs.Step.{Step}
 use Rattle.edits.specs.Asked.{Attachable, RoomIn}

@@ -7,11 +7,11 @@ use mathlib.Core.List.{List, [], _∷_}
 use Prim.Native.Nat.{ℕ, _<_}
 use lib.ListN.{length}
 use Rattle.words.proofs.Tests.{and-left, and-right}
-use Rattle.slots.specs.Fields.{CharsFit}
-use Rattle.slots.specs.declared.NameId.{NameId}
-use Rattle.slots.specs.declared.Chars.{Chars}
-use Rattle.slots.specs.declared.NodeData.the-variants as given
-use Rattle.slots.specs.declared.Node.{Node}
+use Rattle.records.specs.Fields.{CharsFit}
+use Rattle.words.specs.declared.NameId.{NameId}
+use Rattle.records.specs.declared.Chars.{Chars}
+use Rattle.records.specs.declared.NodeData.the-variants as given
+use Rattle.records.specs.declared.Node.{Node}
 use Rattle.texts.specs.Pool.{stored, storedSlot, slotsFor}
 use Rattle.names.specs.Table.{name, numberOf, interned}
 use Rattle.model.specs.Kinds.{Kind, element, text, comment, instruction, children, isRoot}
@@ -20,8 +20,8 @@ use Rattle.model.specs.Edits.{nextHandle}
 use Rattle.model.specs.Arguments.{refuseIf, first, notUtf8, nameCheck, namespaceCheck, commentCheck, instructionCheck}
 use Rattle.model.specs.Checks.{container, textUnder, checkAppendElement, checkAppendText, checkAppendComment, checkAppendPi}
 use Rattle.model.specs.Calls.{Call, append-element, append-text, append-comment, append-pi, made, Out, isRefusal, step, fullUnless, textFits, twoFit, nameFitsIn, nodeFits, rootTaken, appended, appends, appendOneText, withTwo, storedTwo}
-use Rattle.model.proofs.Guards.{first-zero}
-use Rattle.memory.specs.declared.layout.Document.{Document}
+use Rattle.laws.proofs.Guards.{first-zero}
+use Rattle.layout.specs.declared.Document.{Document}
 use Rattle.memory.specs.Decode.{slotOf, kindOf, decode}
 use Rattle.memory.specs.Step.{Step}
 use Rattle.memory.specs.Undamaged.{Undamaged}

@@ -2,37 +2,37 @@
 -- Assumes nothing.
 use mathlib.Core.Path.{_≡_, refl, sym, ap, subst, _∙_}
 use mathlib.Core.Bool.{true}
-use mathlib.Core.List.{List, [], _∷_, _++_, reverse}
-use Prim.Native.Nat.{ℕ, suc, _+_, _-_, _*_, _≤_, _<_}
+use mathlib.Core.List.{List, [], _∷_, reverse}
+use Prim.Native.Nat.{ℕ, suc, _-_, _*_, _≤_, _<_}
 use native.Mathlib.Omega.{arith}
 use native.Mathlib.Decide.{decLt}
-use lib.ListN.{length, take, drop}
+use lib.ListN.{length}
 use Rattle.words.specs.Parts.{put}
 use Rattle.words.specs.Lists.{tabulate}
 use borrow.Author.Tests.{ltb-true}
-use Rattle.words.proofs.Parts.{put-put, put-back}
+use Rattle.words.proofs.Parts.{put-put}
 use Rattle.words.proofs.Lists.{length-tabulate}
-use Rattle.slots.specs.Handles.{wordOf}
-use Rattle.slots.specs.Records.{recordOf}
+use Rattle.records.specs.Handles.{wordOf}
+use Rattle.records.specs.Records.{recordOf}
 use Rattle.slots.specs.Regions.{slotsWords, generationAt, freeAt, putGeneration, putRecord, putOrder, noPosition}
-use Rattle.slots.specs.Slots.{up, hasSlot, taken, takenWords, CanTake}
-use Rattle.slots.specs.declared.Node.{Node}
+use Rattle.slots.specs.Slots.{up, hasSlot, taken, takenWords}
+use Rattle.records.specs.declared.Node.{Node}
 use Rattle.slots.specs.declared.slot.Taken.{Taken}
 use Rattle.slots.proofs.Regions.{length-putGeneration, length-putOrder}
 use Rattle.slots.proofs.Stacks.{takenWords-put, taken-reused, taken-new}
 use Rattle.model.specs.Doc.{Doc}
 use Rattle.model.specs.Edits.{nextFrom, nextHandle, bornFrom, born}
-use Rattle.memory.specs.declared.layout.Document.{Document}
-use Rattle.memory.specs.Layout.{memoryOk}
+use Rattle.layout.specs.declared.Document.{Document}
+use Rattle.layout.specs.Layout.{memoryOk}
 use Rattle.memory.specs.Decode.{kindOf, slotsPart, slotsMade, slotsFree, poolIn, namesIn, lengthsAdd, decodeWith, decode}
 use Rattle.memory.specs.Writing.{putSlots, putNode}
 use Rattle.memory.proofs.Columns.{generation-in}
 use Rattle.memory.proofs.Kept.{decode-kept, putSlots-texts}
-use Rattle.memory.proofs.Reading.{slots-lent}
 use Rattle.memory.proofs.Shaped.{length-slotsPart}
 use Rattle.memory.proofs.Written.{length-putSlots, slotsPart-putSlots}
 use Rattle.memory.specs.Step.{Step}
-use Rattle.edits.specs.Slot.{withSlots, CanBear, Newborn}
+use Rattle.layout.specs.Record.{withSlots}
+use Rattle.edits.specs.Slot.{CanBear, Newborn}
 use Rattle.memory.proofs.Past.{slots-past}
 use Rattle.edits.proofs.Taking.{reverse-next, can-take}
 use Rattle.edits.proofs.Filled.{filledWords, length-filled, decode-reused, decode-made}
@@ -105,36 +105,11 @@ module _ (d : Document) (mem : List ℕ) (c : CanBear d mem) where
           ∙ ap (λ (k : ℕ). wordOf (record { index = k; generation = 0 })) (sym (length-tabulate (generationAt n w) M))
           ∙ sym (ap (λ (l : List ℕ). nextFrom l D) (none-free e))
 
-  -- ---- the part of the slots, lent and returned
-
   size-taken : length (takenWords n w M F) ≡ 15 * n
   size-taken =
       let i = taken n w M F .id in
       ap length (takenWords-put n w M F) ∙ length-putOrder n (putGeneration n w (i .index) (i .generation)) (i .index) noPosition
       ∙ length-putGeneration n w (i .index) (i .generation) ∙ length-slotsPart d mem (c .memory)
-
-  taken-stored : (ys : List ℕ) → ys ≡ takenWords (d .limits .nodes) (take (15 * d .limits .nodes - 0) (drop 0 mem)) (slotsMade d) (slotsFree d)
-      → ys ++ drop (15 * d .limits .nodes - 0) (drop 0 mem) ≡ putSlots (takenWords (d .limits .nodes) (slotsPart d mem) (slotsMade d) (slotsFree d)) mem
-  unfolding putSlots
-  taken-stored ys e =
-      let q : ys ≡ takenWords n w M F = e ∙ ap (λ (x : List ℕ). takenWords n x M F) (slots-lent d mem) in
-      let size : length ys ≡ 15 * n - 0 =
-      ap length q ∙ omega (arith, size-taken) in
-      put-back mem 0 ys (15 * n - 0) size ∙ ap (λ (v : List ℕ). put 0 v mem) q
-
-  module _ (made free : ℕ) (em : made ≡ slotsMade d) (ef : free ≡ slotsFree d) where
-    pub can-take-lent : CanTake (d .limits .nodes) (take (15 * d .limits .nodes - 0) (drop 0 mem)) made free
-    can-take-lent =
-        subst (λ (x : List ℕ). CanTake n x made free) (sym (slots-lent d mem))
-        (subst (λ (k : ℕ). CanTake n w k free) (sym em) (subst (λ (k : ℕ). CanTake n w M k) (sym ef) (can-take d mem c)))
-
-    pub taken-lent : (t : Taken) → t ≡ taken (d .limits .nodes) (take (15 * d .limits .nodes - 0) (drop 0 mem)) made free
-        → t ≡ taken (d .limits .nodes) (slotsPart d mem) (slotsMade d) (slotsFree d)
-    taken-lent t e = e ∙ ap (λ (x : List ℕ). taken n x made free) (slots-lent d mem) ∙ ap (λ (k : ℕ). taken n w k free) em ∙ ap (λ (k : ℕ). taken n w M k) ef
-
-    pub words-lent : (ys : List ℕ) → ys ≡ takenWords (d .limits .nodes) (take (15 * d .limits .nodes - 0) (drop 0 mem)) made free
-        → ys ++ drop (15 * d .limits .nodes - 0) (drop 0 mem) ≡ putSlots (takenWords (d .limits .nodes) (slotsPart d mem) (slotsMade d) (slotsFree d)) mem
-    words-lent ys e = taken-stored ys (e ∙ ap (λ (k : ℕ). takenWords n (take (15 * n - 0) (drop 0 mem)) k free) em ∙ ap (λ (k : ℕ). takenWords n (take (15 * n - 0) (drop 0 mem)) M k) ef)
 
   pub taken-slot : (t : Taken) → t ≡ taken (d .limits .nodes) (slotsPart d mem) (slotsMade d) (slotsFree d) → t .id .index < d .limits .nodes
   taken-slot t e = subst (λ (x : Taken). x .id .index < n) (sym e) (placed .slot)

@@ -6,9 +6,9 @@ use mathlib.Core.List.{List}
 use Prim.Native.Nat.{ℕ}
 use lib.ListN.{length, drop}
 use Rattle.model.specs.Doc.{Doc}
-use Rattle.memory.specs.declared.layout.Limits.{Limits}
-use Rattle.memory.specs.declared.layout.Document.{Document}
-use Rattle.memory.specs.Layout.{limitsOf, documentWords, memoryOk}
+use Rattle.layout.specs.declared.Limits.{Limits}
+use Rattle.layout.specs.declared.Document.{Document}
+use Rattle.layout.specs.Layout.{limitsOf, documentWords, memoryOk}
 use Rattle.memory.specs.Decode.{decode}
 use Rattle.memory.specs.Step.{Step}
 

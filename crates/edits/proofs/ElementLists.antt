@@ -8,12 +8,12 @@ use Prim.Native.Nat.{ℕ, _<_}
 use lib.ListN.{length}
 use lib.Dec.{eqb}
 use Rattle.words.proofs.Tests.{and-left, and-right}
-use Rattle.slots.specs.Fields.{CharsFit}
-use Rattle.slots.specs.Handles.{handleIndex, handleGeneration}
-use Rattle.slots.specs.declared.NameId.{NameId}
-use Rattle.slots.specs.declared.Chars.{Chars}
-use Rattle.slots.specs.declared.NodeData.the-variants as given
-use Rattle.slots.specs.declared.Node.{Node}
+use Rattle.records.specs.Fields.{CharsFit}
+use Rattle.records.specs.Handles.{handleIndex, handleGeneration}
+use Rattle.words.specs.declared.NameId.{NameId}
+use Rattle.records.specs.declared.Chars.{Chars}
+use Rattle.records.specs.declared.NodeData.the-variants as given
+use Rattle.records.specs.declared.Node.{Node}
 use Rattle.texts.specs.Pool.{Pool, stored, storedSlot, slotsFor}
 use Rattle.names.specs.Table.{Name, name, numberOf, interned}
 use Rattle.model.specs.Kinds.{attribute, namespace, Which, attributes, namespaces}
@@ -23,9 +23,9 @@ use Rattle.model.specs.Rules.{Rules}
 use Rattle.model.specs.Arguments.{refuseIf, first, notUtf8, nameCheck, namespaceCheck, textCheck, isXmlns}
 use Rattle.model.specs.Checks.{anElement, isEmpty, checkSetAttribute, declarationCheck, checkDeclareNamespace}
 use Rattle.model.specs.Calls.{set-attribute, declare-namespace, done, made, Out, answers, isRefusal, guarded, step, fullUnless, textFits, twoFit, nameFitsIn, nodeFits, replacementFits, replaceableAt, withReplaced, withTwo, storedTwo, appended, hasName, hasPrefix, findAttribute, findNamespace, setAttributeFound, declareNamespaceFound}
-use Rattle.model.proofs.Guards.{first-zero}
-use Rattle.model.proofs.Membership.{find-some}
-use Rattle.memory.specs.declared.layout.Document.{Document}
+use Rattle.laws.proofs.Guards.{first-zero}
+use Rattle.laws.proofs.Membership.{find-some}
+use Rattle.layout.specs.declared.Document.{Document}
 use Rattle.memory.specs.Decode.{slotOf, kindOf, decode}
 use Rattle.memory.specs.Step.{Step}
 use Rattle.memory.specs.Performed.{Admitted, Performed}

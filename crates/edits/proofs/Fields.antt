@@ -3,47 +3,46 @@
 use mathlib.Core.Path.{_≡_, refl, sym, ap, subst, _∙_}
 use mathlib.Core.Bool.{true}
 use mathlib.Core.Option.{Option, none, some}
-use mathlib.Core.List.{List, [], _∷_, _++_}
-use Prim.Native.Nat.{ℕ, zero, suc, _+_, _-_, _<_}
+use mathlib.Core.List.{List, [], _∷_}
+use Prim.Native.Nat.{ℕ, zero, suc, _<_}
 use native.Mathlib.Omega.{arith}
-use lib.ListN.{length, getD, set, take, drop}
+use lib.ListN.{length, getD, set}
 use Rattle.words.specs.Ends.{lengthOf}
 use Rattle.blocks.specs.Arena.{Block, block}
-use Rattle.slots.specs.Fields.{CharsFit, DataFits, ChildrenFit, NodeFits}
-use Rattle.slots.specs.Handles.{handleIndex, wordOf}
-use Rattle.slots.specs.declared.NodeId.{NodeId}
-use Rattle.slots.specs.declared.Chars.{Chars}
-use Rattle.slots.specs.declared.Range.{Range}
-use Rattle.slots.specs.declared.NodeData.{NodeData}
-use Rattle.slots.specs.declared.NodeData.the-variants as given
-use Rattle.slots.specs.declared.Node.{Node}
-use Rattle.slots.specs.declared.Loaded.the-variants.{Found}
-use Rattle.slots.proofs.Handles.{handleIndex-wordOf}
+use Rattle.records.specs.Fields.{CharsFit, DataFits, ChildrenFit, NodeFits}
+use Rattle.records.specs.Handles.{handleIndex, wordOf}
+use Rattle.records.specs.declared.NodeId.{NodeId}
+use Rattle.records.specs.declared.Chars.{Chars}
+use Rattle.records.specs.declared.Range.{Range}
+use Rattle.records.specs.declared.NodeData.{NodeData}
+use Rattle.records.specs.declared.NodeData.the-variants as given
+use Rattle.records.specs.declared.Node.{Node}
+use Rattle.records.specs.declared.Loaded.the-variants.{Found}
+use Rattle.records.proofs.Handles.{handleIndex-wordOf}
 use Rattle.texts.specs.Pool.{Pool, textAt, replaced, textsFit}
 use Rattle.texts.specs.Words.{poolOf, countsFit, Counted, ReplacedTo}
-use Rattle.texts.specs.declared.TextLimits.{TextLimits}
 use Rattle.texts.specs.declared.TextCounts.{TextCounts}
 use Rattle.texts.proofs.Words.{pool-slots, text-length, fits-pool}
 use Rattle.model.specs.Kinds.{Kind, Which, children, attributes, namespaces, withText}
-use Rattle.model.specs.Doc.{Doc, kindAt}
+use Rattle.model.specs.Doc.{Doc, changeNodes, kindAt}
 use Rattle.model.specs.Edits.{setKind}
-use Rattle.memory.specs.declared.layout.Document.{Document}
-use Rattle.memory.specs.Layout.{limitsOf, textsAt}
+use Rattle.layout.specs.declared.Document.{Document}
+use Rattle.layout.specs.Layout.{memoryOk}
 use Rattle.memory.specs.Decode.{slotOf, kindOf, handleOf, elementRange, rangeOf, rangeLoaded, loadedAt, slotsPart, slotsMade, textLimits, textCounts, textsPart, poolIn, namesIn, lengthsAdd, decode}
-use Rattle.memory.specs.Writing.{putNode, setNode}
 use Rattle.memory.specs.Step.{Step}
+use Rattle.layout.specs.Record.{withTexts}
+use Rattle.memory.specs.Writing.{putNode, setNode, putTexts}
 use Rattle.memory.proofs.Columns.{length-gens, parent-found, range-in}
 use Rattle.memory.proofs.Shaped.{loaded-fits, shape}
 use Rattle.memory.proofs.Shown.{pool-held}
 use Rattle.memory.proofs.Steps.{loaded-as}
 use Rattle.memory.proofs.Promises.{node-promise}
 use Rattle.edits.specs.Asked.{NodeHeld}
-use Rattle.edits.specs.Pooled.{putTexts, withTexts, setPool}
+use Rattle.edits.specs.Pooled.{setPool}
 use Rattle.edits.specs.Replacing.{withField, filled, Overwritable}
 use Rattle.memory.proofs.Past.{PastKept, words-past}
 use Rattle.edits.proofs.Moved.{node-made, node-slot, kind-loaded}
-use Rattle.edits.proofs.Repooled.{texts-counted, texts-step}
-use Rattle.edits.proofs.Stored.{texts-lent, texts-back, texts-written}
+use Rattle.edits.proofs.Repooled.{texts-counted, texts-changed}
 
 -- an entry set to what it is
 module _ {A : Type 0} where
@@ -113,21 +112,7 @@ filled-range namespaces m f = field-range namespaces (m .«data») f
 kind-alone : (D : Doc) (s h : ℕ) → handleIndex h ≡ s → (k k′ : Kind ℕ (Option ℕ)) → k ≡ k′ → (p : Option ℕ) → set (D .parents) s p ≡ D .parents
     → (r : Which → Block) → ((w : Which) → set (D .ranges w) s (r w) ≡ D .ranges w) → setNode D s (some k) p r ≡ setKind D h k′ (D .pool)
 unfolding setNode setKind
-kind-alone D s h j k k′ ek p ep r er = λ i. record {
-  limits = D .limits;
-  gens = D .gens;
-  free = D .free;
-  kinds = set (D .kinds) (sym j i) (some (ek i));
-  parents = ep i;
-  ranges = λ w. er w i;
-  arenas = D .arenas;
-  order = D .order;
-  current = D .current;
-  pool = D .pool;
-  names = D .names;
-  countsFit = D .countsFit;
-  lengthsFit = D .lengthsFit;
-}
+kind-alone D s h j k k′ ek p ep r er = λ i. changeNodes D (set (D .kinds) (sym j i) (some (ek i))) (ep i) (λ w. er w i)
 
 module _ (d : Document) (mem : List ℕ) (id : NodeId) (hi : id .index < 4294967296) (h : NodeHeld d mem (wordOf id))
     (m : Node) (e : loadedAt (d .limits .nodes) (slotsPart d mem) (id .index) ≡ Found m) where
@@ -190,31 +175,12 @@ module _ (d : Document) (mem : List ℕ) (slot : ℕ) (t : List ℕ) (s : Overwr
       ∙ ap (λ (p : Pool). textsFit (d .limits .texts) (d .limits .textbytes) p 0 (length (textAt (poolIn d mem) (some slot))) (length t)) (sym (pool-held d mem counted))
       ∙ s .room
 
-  module _ (start : ℕ) (e : start ≡ textsAt (limitsOf (d .limits))) (limits : TextLimits) (el : limits ≡ textLimits d) (counts : TextCounts) (ec : counts ≡ textCounts d) where
-    abbrev lent : List ℕ
-    lent = take (start + (d .limits .texts + d .limits .texts + d .limits .textbytes) - start) (drop start mem)
-
-    pub over-asked : Counted limits counts lent × (slot < counts .slots) × (countsFit limits counts 0 (lengthOf lent slot) (length t) ≡ true)
-    over-asked = rw (el, ec, texts-lent d mem (s .memory) start e) (counted, slot-there, fits)
-
-    module _ (ys : List ℕ) (r : TextCounts) (k : ReplacedTo limits counts lent ys slot t r) where
-      told : ReplacedTo (textLimits d) (textCounts d) (textsPart d mem) ys slot t r
-      told = rw (el, ec, texts-lent d mem (s .memory) start e) at k
-
-      abbrev left : List ℕ
-      left = take start mem ++ (ys ++ drop (start + (d .limits .texts + d .limits .texts + d .limits .textbytes) - start) (drop start mem))
-
-      pub over-told : ReplacedTo (textLimits d) (textCounts d) (textsPart d mem) (textsPart d left) slot t r × (left ≡ putTexts d (textsPart d left) mem)
-      over-told = (
-        subst (λ (w : List ℕ). ReplacedTo (textLimits d) (textCounts d) (textsPart d mem) w slot t r) (sym (texts-back d mem (s .memory) start e ys (told .counted .size))) told,
-        texts-written d mem (s .memory) start e ys (told .counted .size),
-      )
+  pub over-asked : (memoryOk d (length mem) ≡ true) × Counted (textLimits d) (textCounts d) (textsPart d mem) × (slot < d .counts .texts)
+      × (countsFit (textLimits d) (textCounts d) 0 (lengthOf (textsPart d mem) slot) (length t) ≡ true)
+  over-asked = (s .memory, counted, slot-there, fits)
 
   pub over-step : (mem′ : List ℕ) (r : TextCounts) → ReplacedTo (textLimits d) (textCounts d) (textsPart d mem) (textsPart d mem′) slot t r
       → mem′ ≡ putTexts d (textsPart d mem′) mem → (e : Document) → e ≡ withTexts d r → Step d mem e mem′ (setPool (decode d mem) (replaced (decode d mem .pool) (some slot) t))
   over-step mem′ r k em e ee =
-      let p = replaced (decode d mem .pool) (some slot) t in
-      let stepped = texts-step d mem (s .memory) (s .counts) (s .lengths) r (textsPart d mem′) (k .counted) p
-      (k .pool ∙ ap (λ (x : Pool). replaced x (some slot) t) (sym (pool-held d mem counted))) in
-      subst (λ (x : Document). Step d mem x mem′ (setPool (decode d mem) p)) (sym ee)
-      (subst (λ (x : List ℕ). Step d mem (withTexts d r) x (setPool (decode d mem) p)) (sym em) stepped)
+      texts-changed d mem (s .memory) (s .counts) (s .lengths) mem′ r (k .counted) em (replaced (decode d mem .pool) (some slot) t)
+      (k .pool ∙ ap (λ (x : Pool). replaced x (some slot) t) (sym (pool-held d mem counted))) e ee

@@ -11,29 +11,30 @@ use lib.ListN.{length, set}
 use Rattle.words.specs.Lists.{tabulate}
 use Rattle.words.proofs.Lists.{length-tabulate, tabulate-same, tabulate-set}
 use Rattle.blocks.specs.Arena.{block, arenaOf}
-use Rattle.slots.specs.Records.{recordOf}
+use Rattle.records.specs.Records.{recordOf}
 use Rattle.slots.specs.Regions.{slotsWords, generationAt, freeAt, orderAt, putGeneration, putRecord, putOrder, noPosition}
-use Rattle.slots.specs.declared.Node.{Node}
-use Rattle.slots.specs.declared.Loaded.{Loaded}
-use Rattle.slots.specs.declared.Loaded.the-variants.{Found}
-use Rattle.slots.proofs.Records.{node-back}
+use Rattle.records.specs.declared.Node.{Node}
+use Rattle.records.specs.declared.Loaded.{Loaded}
+use Rattle.records.specs.declared.Loaded.the-variants.{Found}
+use Rattle.records.proofs.Records.{node-back}
 use Rattle.slots.proofs.Regions.{length-putGeneration, length-putRecord, generationAt-putGeneration, generationAt-putGeneration-other, freeAt-putGeneration, recordAt-putGeneration, orderAt-putGeneration, recordAt-putRecord-other, nodeAt-recordAt, generationAt-putRecord, freeAt-putRecord, orderAt-putRecord, length-putOrder, generationAt-putOrder, freeAt-putOrder, recordAt-putOrder, orderAt-putOrder, orderAt-putOrder-other}
 use Rattle.texts.specs.Pool.{Pool}
 use Rattle.names.specs.Table.{Name}
 use Rattle.model.specs.Kinds.{Which, children, attributes, namespaces}
 use Rattle.model.specs.Doc as doc
-use Rattle.model.specs.Doc.{Doc}
+use Rattle.model.specs.Doc.{Doc, changeSlots, changeNodes, changeArenas, changeOrder, changeFits}
 use Rattle.model.specs.Edits.{up, bornFrom}
-use Rattle.memory.specs.declared.layout.Document.{Document}
-use Rattle.memory.specs.Layout.{limitsOf, entriesOf, memoryOk}
-use Rattle.memory.specs.Decode.{kindOf, kindLoaded, parentLoaded, rangeLoaded, loadedAt, usedOf, countsWithin, slotsPart, arenaPart, slotsMade, decodeWith}
+use Rattle.layout.specs.declared.Document.{Document}
+use Rattle.layout.specs.Layout.{limitsOf, entriesOf, memoryOk}
+use Rattle.memory.specs.Decode.{kindOf, kindLoaded, parentLoaded, rangeLoaded, loadedAt, countsWithin, slotsPart, arenaPart, slotsMade, decodeWith}
+use Rattle.layout.specs.Record.{usedOf, slotCounts, withSlots}
 use Rattle.memory.specs.Writing.{putSlots}
 use Rattle.memory.proofs.Columns.{generation-in}
 use Rattle.memory.proofs.Columned.{loaded-here}
 use Rattle.memory.proofs.Counted.{counts-fit, fit-counts}
 use Rattle.memory.proofs.Shaped.{length-slotsPart}
 use Rattle.memory.proofs.Written.{decode-putSlots}
-use Rattle.edits.specs.Slot.{slotCounts, withSlots, Newborn}
+use Rattle.edits.specs.Slot.{Newborn}
 
 -- one entry more
 tabulate-more : {A : Type 0} (f g : ℕ → A) (k : ℕ) (e : A) → ((i : ℕ) → i < k → f i ≡ g i) → f k ≡ e → tabulate f (k + 1) ≡ tabulate g k ++ (e ∷ [])
@@ -161,23 +162,20 @@ module _ (p : Pool) (names : List (Option Name)) (lengths : Bool) (d : Document)
         let ef : min free N ≡ free = min-eq-left fb in
         let eu : g ≡ up (doc.generationAt D s) = eg ∙ ap up (sym (generation-in p names lengths d mem s tb)) in
         decode-putSlots d mem U ok size-u p names lengths (slotCounts (d .counts) made free) false
-        ∙ (λ i. record {
-          limits = limitsOf (d .limits);
-          gens = (ap (tabulate (generationAt N U)) em
-              ∙ tabulate-set (generationAt N U) (generationAt N W) made s g tb (λ t k ne. generation-other N W long-w s g sb gb m new t (omega arith) ne) (generation-here N W long-w s g sb gb m new)
-              ∙ ap (set (D .gens) s) eu) i;
-          free = (ap (λ (k : ℕ). reverse (tabulate (freeAt N U) k)) ef ∙ ap reverse (tabulate-same (freeAt N U) (freeAt N W) free (λ t k. free-same N W long-w s g sb gb m new t (omega arith)))) i;
-          kinds = (ap (tabulate (λ t. kindLoaded (loadedAt N U t))) em ∙ column-changed N W long-w s g sb gb m new kindLoaded (some (kindOf (m .«data»))) refl made made-in tb) i;
-          parents = (ap (tabulate (λ t. parentLoaded (loadedAt N U t))) em ∙ column-changed N W long-w s g sb gb m new parentLoaded none (new .orphan) made made-in tb) i;
-          ranges = λ a. (ap (tabulate (λ t. rangeLoaded a (loadedAt N U t))) em ∙ column-changed N W long-w s g sb gb m new (rangeLoaded a) (block 0 0) (new .bare a) made made-in tb) i;
-          arenas = λ a. arenaOf (entriesOf (d .limits) a) (min (used-same made free a i) (entriesOf (d .limits) a)) (arenaPart d a mem);
-          order = order-filled N W long-w s g sb gb m new i;
-          current = false;
-          pool = p;
-          names = names;
-          countsFit = counts-filled made free made-in fb i;
-          lengthsFit = lengths;
-        })
+        ∙ (λ i.
+        let slots =
+        changeSlots D
+        ((ap (tabulate (generationAt N U)) em
+        ∙ tabulate-set (generationAt N U) (generationAt N W) made s g tb (λ t k ne. generation-other N W long-w s g sb gb m new t (omega arith) ne) (generation-here N W long-w s g sb gb m new)
+        ∙ ap (set (D .gens) s) eu) i)
+        ((ap (λ (k : ℕ). reverse (tabulate (freeAt N U) k)) ef ∙ ap reverse (tabulate-same (freeAt N U) (freeAt N W) free (λ t k. free-same N W long-w s g sb gb m new t (omega arith)))) i) in
+        let nodes =
+        changeNodes slots
+        ((ap (tabulate (λ t. kindLoaded (loadedAt N U t))) em ∙ column-changed N W long-w s g sb gb m new kindLoaded (some (kindOf (m .«data»))) refl made made-in tb) i)
+        ((ap (tabulate (λ t. parentLoaded (loadedAt N U t))) em ∙ column-changed N W long-w s g sb gb m new parentLoaded none (new .orphan) made made-in tb) i)
+        (λ a. (ap (tabulate (λ t. rangeLoaded a (loadedAt N U t))) em ∙ column-changed N W long-w s g sb gb m new (rangeLoaded a) (block 0 0) (new .bare a) made made-in tb) i) in
+        let lists = changeArenas nodes (λ a. arenaOf (entriesOf (d .limits) a) (min (used-same made free a i) (entriesOf (d .limits) a)) (arenaPart d a mem)) in
+        changeFits (changeOrder lists (order-filled N W long-w s g sb gb m new i) false) (counts-filled made free made-in fb i) lengths)
 
   -- a new slot
   module _ (e : s ≡ slotsMade d) (eg : g ≡ 0) where
@@ -189,20 +187,18 @@ module _ (p : Pool) (names : List (Option Name)) (lengths : Bool) (d : Document)
         let em : min (made + 1) N ≡ made + 1 = min-eq-left mb in
         let ef : min 0 N ≡ 0 = min-eq-left (omega arith) in
         decode-putSlots d mem U ok size-u p names lengths (slotCounts (d .counts) (made + 1) 0) false
-        ∙ (λ i. record {
-          limits = limitsOf (d .limits);
-          gens = (ap (tabulate (generationAt N U)) em
-              ∙ tabulate-more (generationAt N U) (generationAt N W) made 0 (λ t k. generation-other N W long-w s g sb gb m new t (omega arith) (λ x. omega arith))
-              (ap (generationAt N U) (sym e) ∙ generation-here N W long-w s g sb gb m new ∙ eg)) i;
-          free = ap (λ (k : ℕ). reverse (tabulate (freeAt N U) k)) ef i;
-          kinds = (ap (tabulate (λ t. kindLoaded (loadedAt N U t))) em ∙ column-more N W long-w s g sb gb m new kindLoaded (some (kindOf (m .«data»))) refl made e) i;
-          parents = (ap (tabulate (λ t. parentLoaded (loadedAt N U t))) em ∙ column-more N W long-w s g sb gb m new parentLoaded none (new .orphan) made e) i;
-          ranges = λ a. (ap (tabulate (λ t. rangeLoaded a (loadedAt N U t))) em ∙ column-more N W long-w s g sb gb m new (rangeLoaded a) (block 0 0) (new .bare a) made e) i;
-          arenas = λ a. arenaOf (entriesOf (d .limits) a) (min (used-same (made + 1) 0 a i) (entriesOf (d .limits) a)) (arenaPart d a mem);
-          order = (order-filled N W long-w s g sb gb m new ∙ ap (λ (k : ℕ). set (D .order) k noPosition) (e ∙ sym (length-tabulate (generationAt N W) made))) i;
-          current = false;
-          pool = p;
-          names = names;
-          countsFit = counts-filled (made + 1) 0 mb (omega arith) i;
-          lengthsFit = lengths;
-        })
+        ∙ (λ i.
+        let slots =
+        changeSlots D
+        ((ap (tabulate (generationAt N U)) em
+        ∙ tabulate-more (generationAt N U) (generationAt N W) made 0 (λ t k. generation-other N W long-w s g sb gb m new t (omega arith) (λ x. omega arith))
+        (ap (generationAt N U) (sym e) ∙ generation-here N W long-w s g sb gb m new ∙ eg)) i)
+        (ap (λ (k : ℕ). reverse (tabulate (freeAt N U) k)) ef i) in
+        let nodes =
+        changeNodes slots
+        ((ap (tabulate (λ t. kindLoaded (loadedAt N U t))) em ∙ column-more N W long-w s g sb gb m new kindLoaded (some (kindOf (m .«data»))) refl made e) i)
+        ((ap (tabulate (λ t. parentLoaded (loadedAt N U t))) em ∙ column-more N W long-w s g sb gb m new parentLoaded none (new .orphan) made e) i)
+        (λ a. (ap (tabulate (λ t. rangeLoaded a (loadedAt N U t))) em ∙ column-more N W long-w s g sb gb m new (rangeLoaded a) (block 0 0) (new .bare a) made e) i) in
+        let lists = changeArenas nodes (λ a. arenaOf (entriesOf (d .limits) a) (min (used-same (made + 1) 0 a i) (entriesOf (d .limits) a)) (arenaPart d a mem)) in
+        let order = (order-filled N W long-w s g sb gb m new ∙ ap (λ (k : ℕ). set (D .order) k noPosition) (e ∙ sym (length-tabulate (generationAt N W) made))) i in
+        changeFits (changeOrder lists order false) (counts-filled (made + 1) 0 mb (omega arith) i) lengths)

@@ -3,10 +3,10 @@
 use mathlib.Core.Path.{_≡_, sym, ap, subst, _∙_}
 use mathlib.Core.Bool.{true}
 use mathlib.Core.Option.{Option}
-use mathlib.Core.List.{List, _++_}
-use Prim.Native.Nat.{ℕ, _+_, _-_, _≤_, _<_}
+use mathlib.Core.List.{List}
+use Prim.Native.Nat.{ℕ, _<_}
 use native.Mathlib.Omega.{arith}
-use lib.ListN.{length, take, drop}
+use lib.ListN.{length}
 use Rattle.names.specs.Table.{Name, numberOf, interned, nameFits}
 use Rattle.names.specs.Words.{tableOf, TableHeld, InternedTo}
 use Rattle.names.specs.declared.interning.Interned.{Interned}
@@ -14,16 +14,17 @@ use Rattle.names.proofs.Table.{numberOf-le}
 use Rattle.names.proofs.Words.{table-names}
 use Rattle.model.specs.Doc.{Doc}
 use Rattle.model.specs.Rules.{Rules}
-use Rattle.memory.specs.declared.layout.Document.{Document}
-use Rattle.memory.specs.Layout.{limitsOf, namesAt, namesWords}
+use Rattle.layout.specs.declared.Document.{Document}
+use Rattle.layout.specs.Layout.{limitsOf, memoryOk}
 use Rattle.memory.specs.Decode.{nameLimits, nameCounts, namesPart, decode}
 use Rattle.memory.specs.Step.{Step}
-use Rattle.memory.proofs.Limits.{memory-limits, limits-fit, words-fit, words-next}
+use Rattle.layout.specs.Record.{withNames}
+use Rattle.memory.specs.Writing.{putNames}
+use Rattle.layout.proofs.Sizes.{memory-limits, limits-fit}
 use Rattle.memory.proofs.Shown.{names-held}
-use Rattle.edits.specs.Pooled.{putNames, withNames, setNames}
+use Rattle.edits.specs.Pooled.{setNames}
 use Rattle.edits.specs.Stores.{NamesReady, Internable}
-use Rattle.edits.proofs.Lent.{region-lent, region-back, region-written}
-use Rattle.edits.proofs.Renamed.{names-within, names-counted, names-step}
+use Rattle.edits.proofs.Renamed.{names-counted, names-step}
 
 pub rules-names : (D : Doc) → Rules D → NamesReady D
 rules-names D r = record { counts = r .fields .counts; lengths = r .texts .lengths }
@@ -35,46 +36,12 @@ module _ (d : Document) (mem : List ℕ) (n : Name) (s : Internable d mem n) whe
   fits : nameFits (d .limits .names) (d .limits .namebytes) (tableOf (nameLimits d) (nameCounts d) (namesPart d mem)) n ≡ true
   fits = ap (λ (t : List (Option Name)). nameFits (d .limits .names) (d .limits .namebytes) t n) (sym (names-held d mem table)) ∙ s .room
 
-  module _ (start : ℕ) (e : start ≡ namesAt (limitsOf (d .limits))) where
-    abbrev span : ℕ
-    span = d .limits .names + d .limits .names + d .limits .namebytes
-
-    spans : span ≡ namesWords (limitsOf (d .limits))
-    spans = omega arith
-
-    abbrev given : List ℕ
-    given = take (start + (d .limits .names + d .limits .names + d .limits .namebytes) - start) (drop start mem)
-
-    names-lent : given ≡ namesPart d mem
-    names-lent = region-lent mem start (namesAt (limitsOf (d .limits))) span (namesWords (limitsOf (d .limits))) e spans
-
-    pub names-inside : (start + (d .limits .names + d .limits .names + d .limits .namebytes) ≤ length mem) × (start + (d .limits .names + d .limits .names + d .limits .namebytes) < 4294967296)
-    names-inside =
-        let l = limitsOf (d .limits) in
-        let f = words-fit l (limits-fit l (memory-limits d (length mem) (s .memory))) in
-        (omega (arith, e, names-within d mem (s .memory)), omega (arith, e, words-next l))
-
-    pub intern-asked : TableHeld (nameLimits d) (nameCounts d) given × (nameFits (d .limits .names) (d .limits .namebytes) (tableOf (nameLimits d) (nameCounts d) given) n ≡ true)
-    intern-asked = rw names-lent (table, fits)
-
-    module _ (ys : List ℕ) (r : Interned) (k : InternedTo (nameLimits d) (nameCounts d) given ys n r) where
-      told : InternedTo (nameLimits d) (nameCounts d) (namesPart d mem) ys n r
-      told = rw names-lent at k
-
-      abbrev left : List ℕ
-      left = take start mem ++ (ys ++ drop (start + (d .limits .names + d .limits .names + d .limits .namebytes) - start) (drop start mem))
-
-      pub intern-told : InternedTo (nameLimits d) (nameCounts d) (namesPart d mem) (namesPart d left) n r × (left ≡ putNames d (namesPart d left) mem)
-      unfolding putNames
-      intern-told =
-          let l = limitsOf (d .limits) in (
-            subst (λ (w : List ℕ). InternedTo (nameLimits d) (nameCounts d) (namesPart d mem) w n r)
-                (sym (region-back mem start (namesAt l) span (namesWords l) e spans (names-within d mem (s .memory)) ys (told .held .size))) told,
-            region-written mem start (namesAt l) span (namesWords l) e spans (names-within d mem (s .memory)) ys (told .held .size),
-          )
+  pub intern-asked : (memoryOk d (length mem) ≡ true) × TableHeld (nameLimits d) (nameCounts d) (namesPart d mem)
+      × (nameFits (d .limits .names) (d .limits .namebytes) (tableOf (nameLimits d) (nameCounts d) (namesPart d mem)) n ≡ true)
+  intern-asked = (s .memory, table, fits)
 
   module _ (mem′ : List ℕ) (r : Interned) (k : InternedTo (nameLimits d) (nameCounts d) (namesPart d mem) (namesPart d mem′) n r) where
-    pub number-narrow : r .number < 4294967296
+    pub number-narrow : r .number .0 < 4294967296
     number-narrow =
         let t = tableOf (nameLimits d) (nameCounts d) (namesPart d mem) in
         let z = limits-fit (limitsOf (d .limits)) (memory-limits d (length mem) (s .memory)) in
@@ -89,5 +56,5 @@ module _ (d : Document) (mem : List ℕ) (n : Name) (s : Internable d mem n) whe
         subst (λ (x : Document). Step d mem x mem′ (setNames (decode d mem) t)) (sym ee)
         (subst (λ (x : List ℕ). Step d mem (withNames d (r .counts)) x (setNames (decode d mem) t)) (sym em) stepped)
 
-    pub interned-number : r .number ≡ numberOf (decode d mem .names) n
+    pub interned-number : r .number .0 ≡ numberOf (decode d mem .names) n
     interned-number = k .number ∙ ap (λ (x : List (Option Name)). numberOf x n) (sym (names-held d mem table))

@@ -8,7 +8,6 @@ pub mod Appending
 pub mod Unhooked
 pub mod Ready
 pub mod Repooled
-pub mod Lent
 pub mod Stored
 pub mod Renamed
 pub mod Interned

@@ -8,15 +8,15 @@ use lib.ListN.{length}
 use Rattle.blocks.specs.Arena.{Block}
 use Rattle.blocks.proofs.Edits.{list-length}
 use Rattle.blocks.proofs.Halves.{shaped-held}
-use Rattle.slots.specs.Handles.{handleIndex, wordOf}
-use Rattle.slots.specs.declared.NodeId.{NodeId}
-use Rattle.slots.specs.declared.Range.{Range}
-use Rattle.slots.proofs.Handles.{handleIndex-wordOf}
+use Rattle.records.specs.Handles.{handleIndex, wordOf}
+use Rattle.records.specs.declared.NodeId.{NodeId}
+use Rattle.records.specs.declared.Range.{Range}
+use Rattle.records.proofs.Handles.{handleIndex-wordOf}
 use Rattle.model.specs.Kinds.{Which, children}
 use Rattle.model.specs.Doc.{Doc, liveSlot, rangeIn, listIn, listAt}
 use Rattle.model.specs.Edits.{setParent, unhook, attach}
-use Rattle.memory.specs.declared.layout.Document.{Document}
-use Rattle.memory.specs.Layout.{entriesOf, memoryOk}
+use Rattle.layout.specs.declared.Document.{Document}
+use Rattle.layout.specs.Layout.{entriesOf, memoryOk}
 use Rattle.memory.specs.Decode.{blockOf, rangeLoaded, loadedAt, slotsPart, arenaPart, arenaUsed, decode}
 use Rattle.memory.specs.Entries.{BlockHeld, BlockOpen, rangeFrom}
 use Rattle.memory.proofs.BlockSteps as blocks

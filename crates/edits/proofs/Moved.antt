@@ -12,30 +12,31 @@ use Rattle.blocks.specs.Rule.{Inside}
 use Rattle.blocks.specs.Held.{Held}
 use Rattle.blocks.proofs.Answers.{words-room}
 use Rattle.blocks.proofs.Decoded.{after-length, after-removal-length}
-use Rattle.slots.specs.Fields.{ParentFits}
-use Rattle.slots.specs.Handles.{handleIndex, wordOf}
-use Rattle.slots.specs.declared.NodeId.{NodeId}
-use Rattle.slots.specs.declared.Parent.{Parent}
-use Rattle.slots.specs.declared.Parent.the-variants.{None, Of}
-use Rattle.slots.specs.declared.Range.{Range}
-use Rattle.slots.specs.declared.Node.{Node}
-use Rattle.slots.specs.declared.Loaded.{Loaded}
-use Rattle.slots.specs.declared.Loaded.the-variants.{Found, NoNode}
-use Rattle.slots.proofs.Handles.{handleIndex-wordOf}
+use Rattle.records.specs.Fields.{ParentFits}
+use Rattle.records.specs.Handles.{handleIndex, wordOf}
+use Rattle.records.specs.declared.NodeId.{NodeId}
+use Rattle.records.specs.declared.Parent.{Parent}
+use Rattle.records.specs.declared.Parent.the-variants.{None, Of}
+use Rattle.records.specs.declared.Range.{Range}
+use Rattle.records.specs.declared.Node.{Node}
+use Rattle.records.specs.declared.Loaded.{Loaded}
+use Rattle.records.specs.declared.Loaded.the-variants.{Found, NoNode}
+use Rattle.records.proofs.Handles.{handleIndex-wordOf}
 use Rattle.model.specs.Kinds.{Which, whichOf}
 use Rattle.model.specs.Doc.{Doc, liveSlot, kindIn, kindAt, parentIn, parentAt, rangeIn}
 use Rattle.model.specs.Rules.{hasRange}
 use Rattle.model.specs.Edits.{setParent, unlinkFrom, link, unlink, unhook, attach}
-use Rattle.memory.specs.declared.layout.Document.{Document}
-use Rattle.memory.specs.Layout.{entriesOf, memoryOk}
+use Rattle.layout.specs.declared.Document.{Document}
+use Rattle.layout.specs.Layout.{entriesOf, memoryOk}
 use Rattle.memory.specs.Decode.{kindOf, handleOf, blockOf, loadedAt, slotsPart, arenaPart, slotsMade, arenaUsed, poolIn, namesIn, lengthsAdd, decode}
-use Rattle.memory.specs.Writing.{putParent, outdated}
-use Rattle.memory.specs.Entries.{BlockHeld, BlockOpen, insertion, removal, rangeFrom, putBlock, withUsed}
+use Rattle.memory.specs.Writing.{putParent}
+use Rattle.memory.specs.Entries.{BlockHeld, BlockOpen, insertion, removal, rangeFrom, putBlock}
 use Rattle.memory.proofs.Columns.{live-made, live-none, kind-found, parent-found}
 use Rattle.memory.proofs.Shaped.{loaded-fits}
 use Rattle.memory.proofs.BlockSteps as blocks
 use Rattle.memory.proofs.Promises.{parent-promise, link-promise, unlink-promise}
 use Rattle.memory.specs.Step.{Step}
+use Rattle.layout.specs.Record.{outdated, withUsed}
 use Rattle.edits.specs.Asked.{NodeHeld, Hooked, Attachable}
 use Rattle.memory.proofs.Past.{PastKept, words-past, block-past}
 use Rattle.edits.proofs.Composed.{step-none, step-as, step-memory, step-next}

@@ -12,8 +12,8 @@ use Rattle.model.specs.Edits.{unhook, attach}
 use Rattle.model.specs.Arguments.{first}
 use Rattle.model.specs.Checks.{container, aChild, checkDetach, checkMove}
 use Rattle.model.specs.Calls.{detach, reparent, insert-at, done, Out, answers, isRefusal, rootTaken, roomFits, fullUnless, moveTo}
-use Rattle.model.proofs.Guards.{first-zero}
-use Rattle.memory.specs.declared.layout.Document.{Document}
+use Rattle.laws.proofs.Guards.{first-zero}
+use Rattle.layout.specs.declared.Document.{Document}
 use Rattle.memory.specs.Decode.{decode}
 use Rattle.memory.specs.Step.{Step}
 use Rattle.memory.specs.Undamaged.{Undamaged}

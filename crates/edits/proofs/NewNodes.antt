@@ -9,13 +9,13 @@ use native.Mathlib.Omega.{arith}
 use lib.ListN.{length}
 use Rattle.blocks.specs.Arena.{block}
 use Rattle.words.proofs.Tests.{and-left, and-right}
-use Rattle.slots.specs.Fields.{CharsFit}
-use Rattle.slots.specs.Handles.{handleIndex}
-use Rattle.slots.specs.declared.NameId.{NameId}
-use Rattle.slots.specs.declared.Chars.{Chars}
-use Rattle.slots.specs.declared.NodeData.{NodeData}
-use Rattle.slots.specs.declared.NodeData.the-variants as given
-use Rattle.slots.specs.declared.Node.{Node}
+use Rattle.records.specs.Fields.{CharsFit}
+use Rattle.records.specs.Handles.{handleIndex}
+use Rattle.words.specs.declared.NameId.{NameId}
+use Rattle.records.specs.declared.Chars.{Chars}
+use Rattle.records.specs.declared.NodeData.{NodeData}
+use Rattle.records.specs.declared.NodeData.the-variants as given
+use Rattle.records.specs.declared.Node.{Node}
 use Rattle.texts.specs.Pool.{Pool}
 use Rattle.names.specs.Table.{Name}
 use Rattle.model.specs.Kinds.{Kind, Which, children, attributes, namespaces, isElement, owns}
@@ -23,7 +23,7 @@ use Rattle.model.specs.Doc.{Doc, listAt, kindAt, viewAt}
 use Rattle.model.specs.Edits.{nextFrom, nextHandle, bornFrom, born, attach}
 use Rattle.model.specs.Checks.{container, anElement}
 use Rattle.model.specs.Calls.{Call, made, done, answers, step, slotFitsFrom, slotFits, roomFits, nodeFits, appended}
-use Rattle.memory.specs.declared.layout.Document.{Document}
+use Rattle.layout.specs.declared.Document.{Document}
 use Rattle.memory.specs.Decode.{kindOf, elementRange, rangeOf, decode}
 use Rattle.memory.specs.Step.{Step}
 use Rattle.memory.specs.Undamaged.{Undamaged}

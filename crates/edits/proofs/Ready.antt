@@ -12,15 +12,15 @@ use Rattle.words.specs.Lists.{countOf}
 use Rattle.words.proofs.Lists.{length-tabulate, getD-tabulate}
 use Rattle.words.proofs.Tests.{and-left}
 use Rattle.texts.proofs.Lists.{getD-count}
-use Rattle.slots.specs.Handles.{handleIndex, handleGeneration}
+use Rattle.records.specs.Handles.{handleIndex, handleGeneration}
 use Rattle.slots.specs.Regions as regions
 use Rattle.model.specs.Kinds.{Kind, root, element, attribute, text, comment, namespace, instruction, Which, children, attributes, namespaces, owns, whichOf}
 use Rattle.model.specs.Doc.{generationAt, liveSlot, resolves, kindAt, parentAt}
 use Rattle.model.specs.Rules.{Rules, hasRange}
 use Rattle.model.specs.Edits.{unhook}
 use Rattle.model.specs.Calls.{slotFits, roomFits}
-use Rattle.memory.specs.declared.layout.Document.{Document}
-use Rattle.memory.specs.Layout.{memoryOk}
+use Rattle.layout.specs.declared.Document.{Document}
+use Rattle.layout.specs.Layout.{memoryOk}
 use Rattle.memory.specs.Decode.{slotsPart, slotsMade, poolIn, namesIn, lengthsAdd, decode}
 use Rattle.memory.specs.Entries.{BlockHeld}
 use Rattle.memory.proofs.Columns.{length-gens, live-made}

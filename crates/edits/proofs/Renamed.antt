@@ -18,19 +18,22 @@ use Rattle.names.specs.Table.{Name}
 use Rattle.names.specs.Words.{tableOf, TableHeld}
 use Rattle.names.specs.declared.NameCounts.{NameCounts}
 use Rattle.model.specs.Kinds.{Which, children, attributes, namespaces}
-use Rattle.memory.specs.declared.layout.Document.{Document}
-use Rattle.memory.specs.Layout.{limitsOf, entriesOf, arenaAt, textsAt, textsWords, namesAt, namesWords, documentWords, memoryOk}
-use Rattle.memory.specs.Decode.{usedOf, countsWithin, slotsPart, arenaPart, textsPart, namesPart, textLimits, textCounts, nameLimits, nameCounts, poolIn, namesIn, textsAdd, namesAdd, lengthsAdd, documentOf, decode}
+use Rattle.model.specs.Doc.{changeArenas, changeNames, changeFits}
+use Rattle.layout.specs.declared.Document.{Document}
+use Rattle.layout.specs.Layout.{limitsOf, entriesOf, arenaAt, textsAt, textsWords, namesAt, namesWords, documentWords, memoryOk}
+use Rattle.memory.specs.Decode.{countsWithin, slotsPart, arenaPart, textsPart, namesPart, textLimits, textCounts, nameLimits, nameCounts, poolIn, namesIn, textsAdd, namesAdd, lengthsAdd, documentOf, decode}
+use Rattle.layout.specs.Record.{usedOf, tableCounts, withNames}
 use Rattle.memory.specs.Step.{Step}
-use Rattle.memory.proofs.Limits.{memory-long, arena-behind-slots, arena-inside, names-next, words-next}
+use Rattle.memory.specs.Writing.{putNames}
+use Rattle.layout.proofs.Sizes.{memory-long, arena-behind-slots, arena-inside, names-next, words-next}
 use Rattle.memory.proofs.Counted.{counts-fit, fit-counts}
 use Rattle.memory.proofs.Shown.{names-held}
-use Rattle.edits.specs.Pooled.{putNames, tableCounts, withNames, setNames}
+use Rattle.edits.specs.Pooled.{setNames}
 
 module _ (d : Document) (mem : List ℕ) (ok : memoryOk d (length mem) ≡ true) where
   -- ---- what the table asks, from rules 1 and 8
 
-  pub names-within : namesAt (limitsOf (d .limits)) + namesWords (limitsOf (d .limits)) ≤ length mem
+  names-within : namesAt (limitsOf (d .limits)) + namesWords (limitsOf (d .limits)) ≤ length mem
   names-within =
       let l = limitsOf (d .limits) in
       omega (arith, words-next l, memory-long d (length mem) ok)
@@ -123,21 +126,9 @@ module _ (d : Document) (mem : List ℕ) (ok : memoryOk d (length mem) ≡ true)
     renamed n q =
         let D = decode d mem in
         (λ i. documentOf (pool-are i) ((names-are ∙ q) i) (lengths-are i) e (slots-same i) (λ a. arena-same a i))
-        ∙ (λ i. record {
-          limits = D .limits;
-          gens = D .gens;
-          free = D .free;
-          kinds = D .kinds;
-          parents = D .parents;
-          ranges = D .ranges;
-          arenas = λ a. arenaOf (entriesOf (d .limits) a) (min (used-same a i) (entriesOf (d .limits) a)) (arenaPart d a mem);
-          order = D .order;
-          current = d .current;
-          pool = D .pool;
-          names = n;
-          countsFit = counts-are i;
-          lengthsFit = D .lengthsFit;
-        })
+        ∙ (λ i.
+        let lists = changeArenas (changeNames D n) (λ a. arenaOf (entriesOf (d .limits) a) (min (used-same a i) (entriesOf (d .limits) a)) (arenaPart d a mem)) in
+        changeFits lists (counts-are i) (D .lengthsFit))
 
     pub names-step : (n : List (Option Name)) → tableOf (nameLimits d) t words ≡ n → Step d mem (withNames d t) (putNames d words mem) (setNames (decode d mem) n)
     unfolding putNames

@@ -11,28 +11,28 @@ use lib.ListN.{length, set}
 use lib.Dec.{eqb}
 use Rattle.words.specs.Lists.{countOf}
 use Rattle.words.proofs.Tests.{and-left}
-use Rattle.slots.specs.Handles.{handleIndex, handleGeneration, wordOf}
-use Rattle.slots.specs.declared.NodeId.{NodeId}
-use Rattle.slots.specs.declared.TextSlot.{TextSlot}
-use Rattle.slots.specs.declared.Chars.{Chars}
-use Rattle.slots.specs.declared.Chars.the-variants.{Empty, Expanded}
-use Rattle.slots.specs.declared.Node.{Node}
-use Rattle.slots.specs.declared.Loaded.the-variants.{Found}
+use Rattle.records.specs.Handles.{handleIndex, handleGeneration, wordOf}
+use Rattle.records.specs.declared.NodeId.{NodeId}
+use Rattle.words.specs.declared.TextSlot.{TextSlot}
+use Rattle.records.specs.declared.Chars.{Chars}
+use Rattle.records.specs.declared.Chars.the-variants.{Empty, Expanded}
+use Rattle.records.specs.declared.Node.{Node}
+use Rattle.records.specs.declared.Loaded.the-variants.{Found}
 use Rattle.texts.specs.Pool.{Pool, stored, storedSlot, replaced}
 use Rattle.texts.proofs.Pool.{replaced-none}
 use Rattle.model.specs.Kinds.{Kind, root, element, attribute, text, comment, namespace, instruction, textsOf, replaceable, withText}
-use Rattle.model.specs.Doc.{Doc, orElse, generationAt, liveSlot, kindIn, kindAt, viewAt}
+use Rattle.model.specs.Doc.{Doc, changeNodes, changePool, orElse, generationAt, liveSlot, kindIn, kindAt, viewAt}
 use Rattle.model.specs.Rules.{Rules, slotsHeld, heldIn, held}
 use Rattle.model.specs.Edits.{setKind}
 use Rattle.model.specs.Arguments.{first, notUtf8}
 use Rattle.model.specs.Checks.{aText, textUnder, checkSetText}
 use Rattle.model.specs.Calls.{set-text, done, Out, answers, fullUnless, underRoot, replacementFits, replaceableAt, withReplaced}
-use Rattle.model.proofs.Basics.{mem-count, live-node, live-below}
-use Rattle.model.proofs.Counting.{below, below-mem}
-use Rattle.model.proofs.Membership.{mem-joined}
-use Rattle.model.proofs.Shown.{held-here, held-there}
-use Rattle.model.proofs.Guards.{first-zero}
-use Rattle.memory.specs.declared.layout.Document.{Document}
+use Rattle.laws.proofs.Basics.{mem-count, live-node, live-below}
+use Rattle.laws.proofs.Counting.{below, below-mem}
+use Rattle.laws.proofs.Membership.{mem-joined}
+use Rattle.laws.proofs.Shown.{held-here, held-there}
+use Rattle.laws.proofs.Guards.{first-zero}
+use Rattle.layout.specs.declared.Document.{Document}
 use Rattle.memory.specs.Decode.{slotOf, kindOf, loadedAt, slotsPart, poolIn, namesIn, lengthsAdd, decode}
 use Rattle.memory.specs.Step.{Step}
 use Rattle.memory.specs.Performed.{Admitted, Performed}
@@ -118,21 +118,7 @@ module _ (d : Document) (mem : List ℕ) (h : ℕ) (t : List ℕ) (e : Document)
 
 kind-kept : (D : Doc) (h : ℕ) (k : Kind ℕ (Option ℕ)) (p : Pool) → set (D .kinds) (handleIndex h) (some k) ≡ D .kinds → setPool D p ≡ setKind D h k p
 unfolding setPool setKind
-kind-kept D h k p e = λ i. record {
-  limits = D .limits;
-  gens = D .gens;
-  free = D .free;
-  kinds = sym e i;
-  parents = D .parents;
-  ranges = D .ranges;
-  arenas = D .arenas;
-  order = D .order;
-  current = D .current;
-  pool = p;
-  names = D .names;
-  countsFit = D .countsFit;
-  lengthsFit = D .lengthsFit;
-}
+kind-kept D h k p e = λ i. changePool (changeNodes D (sym e i) (D .parents) (D .ranges)) p
 
 module _ (d : Document) (mem : List ℕ) (h : ℕ) (t : List ℕ) (r : Replaceable d mem h t) where
   abbrev D : Doc

@@ -17,14 +17,17 @@ use Rattle.texts.specs.Words.{Counted, poolOf}
 use Rattle.texts.specs.declared.TextCounts.{TextCounts}
 use Rattle.names.specs.Words.{nameShown}
 use Rattle.model.specs.Kinds.{Which, children, attributes, namespaces}
-use Rattle.memory.specs.declared.layout.Document.{Document}
-use Rattle.memory.specs.Layout.{limitsOf, entriesOf, arenaAt, textsAt, textsWords, namesAt, namesWords, documentWords, memoryOk}
-use Rattle.memory.specs.Decode.{usedOf, countsWithin, slotsPart, arenaPart, textsPart, namesPart, textLimits, textCounts, nameLimits, nameCounts, poolIn, namesIn, textsAdd, namesAdd, lengthsAdd, documentOf, decode}
-use Rattle.memory.proofs.Limits.{memory-long, arena-behind-slots, arena-inside, names-next, words-next}
+use Rattle.model.specs.Doc.{changeArenas, changePool, changeFits}
+use Rattle.layout.specs.declared.Document.{Document}
+use Rattle.layout.specs.Layout.{limitsOf, entriesOf, arenaAt, textsAt, textsWords, namesAt, namesWords, documentWords, memoryOk}
+use Rattle.memory.specs.Decode.{countsWithin, slotsPart, arenaPart, textsPart, namesPart, textLimits, textCounts, nameLimits, nameCounts, poolIn, namesIn, textsAdd, namesAdd, lengthsAdd, documentOf, decode}
+use Rattle.layout.specs.Record.{usedOf, poolCounts, withTexts}
+use Rattle.layout.proofs.Sizes.{memory-long, arena-behind-slots, arena-inside, names-next, words-next}
 use Rattle.memory.proofs.Counted.{counts-fit, fit-counts}
 use Rattle.memory.proofs.Shown.{pool-held}
 use Rattle.memory.specs.Step.{Step}
-use Rattle.edits.specs.Pooled.{putTexts, poolCounts, withTexts, setPool}
+use Rattle.memory.specs.Writing.{putTexts}
+use Rattle.edits.specs.Pooled.{setPool}
 
 module _ (d : Document) (mem : List ℕ) (ok : memoryOk d (length mem) ≡ true) where
   -- ---- what the pool asks, from rules 1 and 8
@@ -118,21 +121,9 @@ module _ (d : Document) (mem : List ℕ) (ok : memoryOk d (length mem) ≡ true)
     pooled p q =
         let D = decode d mem in
         (λ i. documentOf ((pool-are ∙ q) i) (names-are i) (lengths-are i) e (slots-same i) (λ a. arena-same a i))
-        ∙ (λ i. record {
-          limits = D .limits;
-          gens = D .gens;
-          free = D .free;
-          kinds = D .kinds;
-          parents = D .parents;
-          ranges = D .ranges;
-          arenas = λ a. arenaOf (entriesOf (d .limits) a) (min (used-same a i) (entriesOf (d .limits) a)) (arenaPart d a mem);
-          order = D .order;
-          current = d .current;
-          pool = p;
-          names = D .names;
-          countsFit = counts-are i;
-          lengthsFit = D .lengthsFit;
-        })
+        ∙ (λ i.
+        let lists = changeArenas (changePool D p) (λ a. arenaOf (entriesOf (d .limits) a) (min (used-same a i) (entriesOf (d .limits) a)) (arenaPart d a mem)) in
+        changeFits lists (counts-are i) (D .lengthsFit))
 
     -- store_text and replace_text, with the pool that they promise
     pub texts-step : (p : Pool) → poolOf (textLimits d) t words ≡ p → Step d mem (withTexts d t) (putTexts d words mem) (setPool (decode d mem) p)
@@ -145,3 +136,12 @@ module _ (d : Document) (mem : List ℕ) (ok : memoryOk d (length mem) ≡ true)
           size = length-put mem (textsAt l) words (omega (arith, long, inside));
           past = drop-put-after mem (textsAt l) words (documentWords l) (omega (arith, inside)) (omega (arith, long, names-next l, words-next l));
         }
+
+-- the memory and the record of a call that was lent the words
+pub texts-changed : (d : Document) (mem : List ℕ) → memoryOk d (length mem) ≡ true → decode d mem .countsFit ≡ true → decode d mem .lengthsFit ≡ true
+    → (mem′ : List ℕ) (t : TextCounts) → Counted (textLimits d) t (textsPart d mem′) → mem′ ≡ putTexts d (textsPart d mem′) mem
+    → (p : Pool) → poolOf (textLimits d) t (textsPart d mem′) ≡ p → (e : Document) → e ≡ withTexts d t → Step d mem e mem′ (setPool (decode d mem) p)
+texts-changed d mem ok counts lengths mem′ t c em p q e ee =
+    subst (λ (x : Document). Step d mem x mem′ (setPool (decode d mem) p)) (sym ee)
+    (subst (λ (x : List ℕ). Step d mem (withTexts d t) x (setPool (decode d mem) p)) (sym em)
+    (texts-step d mem ok counts lengths t (textsPart d mem′) c p q))

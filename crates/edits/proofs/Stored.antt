@@ -1,42 +1,40 @@
 -- The words of the texts lent to the pool, and what a stored text is to the document.
 -- Assumes nothing.
 use mathlib.Core.Path.{_≡_, refl, sym, ap, subst, _∙_}
-use mathlib.Core.Logic.{_⊎_, inl, inr}
 use mathlib.Core.Bool.{true}
 use mathlib.Core.Option.{some}
-use mathlib.Core.List.{List, [], _∷_, _++_}
-use Prim.Native.Nat.{ℕ, _+_, _-_, _≤_, _<_}
+use mathlib.Core.List.{List, [], _∷_}
+use Prim.Native.Nat.{ℕ, _+_, _≤_, _<_}
 use native.Mathlib.Omega.{arith}
 use native.Mathlib.Decide.{decLt}
-use lib.ListN.{length, take, drop}
+use lib.ListN.{length}
 use lib.Dec.{eqb}
 use Rattle.words.specs.Lists.{countOf}
-use Rattle.slots.specs.declared.Chars.{Chars}
+use Rattle.words.specs.declared.TextSlot.{TextSlot}
+use Rattle.records.specs.declared.Chars.{Chars}
 use Rattle.texts.specs.Pool.{Pool, stored, storedFrom, storedSlot, slotsFor, textsFit}
 use Rattle.texts.specs.Rule.{FreeTexts}
-use Rattle.texts.specs.Words.{poolOf, fieldOf, countsFit, Counted, PoolHeld, StoredTo}
-use Rattle.texts.specs.declared.TextLimits.{TextLimits}
-use Rattle.texts.specs.declared.TextCounts.{TextCounts}
-use Rattle.texts.specs.declared.edits.Stored.{Stored}
-use Rattle.texts.specs.declared.edits.TextField.{TextField}
-use Rattle.texts.specs.declared.edits.TextField.the-variants.{Nothing, Slot}
-use Rattle.texts.proofs.Pool.{stored-where, stored-slots, stored-free, stored-bytes, textsFit-within, within-textsFit}
+use Rattle.texts.specs.Words.{fieldOf, countsFit, Counted, PoolHeld, StoredTo}
+use Rattle.texts.specs.declared.storing.Stored.{Stored}
+use Rattle.texts.specs.declared.storing.TextField.{TextField}
+use Rattle.texts.specs.declared.storing.TextField.the-variants.{Slot}
+use Rattle.texts.proofs.Pool.{stored-slots, stored-free, stored-bytes, textsFit-within, within-textsFit}
 use Rattle.texts.proofs.Rule.{stored-free-texts}
-use Rattle.texts.proofs.Words.{pool-slots, fits-pool}
+use Rattle.texts.proofs.Words.{fits-pool}
 use Rattle.model.specs.Doc.{Doc}
 use Rattle.model.specs.Rules.{Rules}
 use Rattle.model.specs.Calls.{textFits}
-use Rattle.memory.specs.declared.layout.Document.{Document}
-use Rattle.memory.specs.Layout.{limitsOf, textsAt, textsWords, memoryOk}
+use Rattle.layout.specs.declared.Document.{Document}
+use Rattle.layout.specs.Layout.{memoryOk}
 use Rattle.memory.specs.Decode.{slotOf, textLimits, textCounts, textsPart, decode}
 use Rattle.memory.specs.Step.{Step}
-use Rattle.memory.proofs.Limits.{memory-long, memory-limits, limits-fit, words-fit, names-next, words-next}
+use Rattle.layout.specs.Record.{withTexts}
+use Rattle.memory.specs.Writing.{putTexts}
 use Rattle.memory.proofs.Shown.{pool-held}
-use Rattle.edits.specs.Pooled.{putTexts, withTexts, setPool}
-use Rattle.edits.specs.Stores.{TextsReady, Storable, TwoStorable, FieldFits}
+use Rattle.edits.specs.Pooled.{setPool}
+use Rattle.edits.specs.Stores.{TextsReady, Storable, TwoStorable}
 use Rattle.edits.proofs.Composed.{step-as, step-memory, step-next}
-use Rattle.edits.proofs.Lent.{region-lent, region-back, region-written}
-use Rattle.edits.proofs.Repooled.{texts-counted, texts-step}
+use Rattle.edits.proofs.Repooled.{texts-counted, texts-changed}
 
 -- ---- what storing asks, from the rules, and again after a text was stored
 
@@ -82,49 +80,7 @@ stored-ready D t r =
       once = λ s. omega (arith, r .once s, stored-once (D .pool) t s);
     }
 
--- ---- the words lent
-
-module _ (d : Document) (mem : List ℕ) (ok : memoryOk d (length mem) ≡ true) (start : ℕ) (e : start ≡ textsAt (limitsOf (d .limits))) where
-  abbrev span : ℕ
-  span = d .limits .texts + d .limits .texts + d .limits .textbytes
-
-  spans : span ≡ textsWords (limitsOf (d .limits))
-  spans = omega arith
-
-  within : textsAt (limitsOf (d .limits)) + textsWords (limitsOf (d .limits)) ≤ length mem
-  within =
-      let l = limitsOf (d .limits) in
-      omega (arith, names-next l, words-next l, memory-long d (length mem) ok)
-
-  pub texts-lent : take (start + (d .limits .texts + d .limits .texts + d .limits .textbytes) - start) (drop start mem) ≡ textsPart d mem
-  texts-lent = region-lent mem start (textsAt (limitsOf (d .limits))) span (textsWords (limitsOf (d .limits))) e spans
-
-  pub texts-inside : (start + (d .limits .texts + d .limits .texts + d .limits .textbytes) ≤ length mem) × (start + (d .limits .texts + d .limits .texts + d .limits .textbytes) < 4294967296)
-  texts-inside =
-      let l = limitsOf (d .limits) in
-      let f = words-fit l (limits-fit l (memory-limits d (length mem) ok)) in
-      (omega (arith, e, within), omega (arith, e, names-next l, words-next l))
-
-  module _ (ys : List ℕ) (long : length ys ≡ d .limits .texts + d .limits .texts + d .limits .textbytes) where
-    abbrev after : List ℕ
-    after = take start mem ++ (ys ++ drop (start + (d .limits .texts + d .limits .texts + d .limits .textbytes) - start) (drop start mem))
-
-    pub texts-back : textsPart d after ≡ ys
-    texts-back = region-back mem start (textsAt (limitsOf (d .limits))) span (textsWords (limitsOf (d .limits))) e spans within ys long
-
-    pub texts-written : after ≡ putTexts d (textsPart d after) mem
-    unfolding putTexts
-    texts-written = region-written mem start (textsAt (limitsOf (d .limits))) span (textsWords (limitsOf (d .limits))) e spans within ys long
-
 -- ---- a text stored
-
-slot-below : (p : Pool) (t : List ℕ) → FreeTexts p → (f : TextField) → fieldOf f ≡ storedSlot p t → length (p .texts) < 4294967296 → FieldFits f
-slot-below p t free Nothing e b = Prim.tt
-slot-below p t free (Slot s) e b = go (stored-where p t s (sym e))
-  where
-    go : (0 < countOf (eqb s) (p .free)) ⊎ (s ≡ length (p .texts)) → s < 4294967296
-    go (inl c) = omega (arith, free .inside s c)
-    go (inr q) = omega arith
 
 module _ (d : Document) (mem t : List ℕ) (s : Storable d mem t) where
   counted : Counted (textLimits d) (textCounts d) (textsPart d mem)
@@ -139,54 +95,23 @@ module _ (d : Document) (mem t : List ℕ) (s : Storable d mem t) where
       ∙ ap (λ (p : Pool). textsFit (d .limits .texts) (d .limits .textbytes) p (slotsFor t) 0 (length t)) (sym (pool-held d mem counted))
       ∙ s .room
 
-  module _ (start : ℕ) (e : start ≡ textsAt (limitsOf (d .limits))) (limits : TextLimits) (el : limits ≡ textLimits d) (counts : TextCounts) (ec : counts ≡ textCounts d) where
-    abbrev given : List ℕ
-    given = take (start + (d .limits .texts + d .limits .texts + d .limits .textbytes) - start) (drop start mem)
-
-    pub store-asked : PoolHeld limits counts given × (countsFit limits counts (slotsFor t) 0 (length t) ≡ true)
-    store-asked = rw (el, ec, texts-lent d mem (s .memory) start e) (held-texts, fits)
-
-    module _ (ys : List ℕ) (r : Stored) (k : StoredTo limits counts given ys t r) where
-      told : StoredTo (textLimits d) (textCounts d) (textsPart d mem) ys t r
-      told = rw (el, ec, texts-lent d mem (s .memory) start e) at k
-
-      abbrev left : List ℕ
-      left = take start mem ++ (ys ++ drop (start + (d .limits .texts + d .limits .texts + d .limits .textbytes) - start) (drop start mem))
-
-      pub store-told : StoredTo (textLimits d) (textCounts d) (textsPart d mem) (textsPart d left) t r × (left ≡ putTexts d (textsPart d left) mem)
-      store-told = (
-        subst (λ (w : List ℕ). StoredTo (textLimits d) (textCounts d) (textsPart d mem) w t r) (sym (texts-back d mem (s .memory) start e ys (told .counted .size))) told,
-        texts-written d mem (s .memory) start e ys (told .counted .size),
-      )
+  pub store-asked : (memoryOk d (length mem) ≡ true) × PoolHeld (textLimits d) (textCounts d) (textsPart d mem) × (countsFit (textLimits d) (textCounts d) (slotsFor t) 0 (length t) ≡ true)
+  store-asked = (s .memory, held-texts, fits)
 
   module _ (mem′ : List ℕ) (r : Stored) (k : StoredTo (textLimits d) (textCounts d) (textsPart d mem) (textsPart d mem′) t r) where
-    pub field-fits : FieldFits (r .field)
-    field-fits =
-        let l = limitsOf (d .limits) in
-        let z = limits-fit l (memory-limits d (length mem) (s .memory)) in
-        slot-below (poolOf (textLimits d) (textCounts d) (textsPart d mem)) t (held-texts .texts) (r .field) (k .field)
-        (omega (arith, pool-slots (textLimits d) (textCounts d) (textsPart d mem) counted, counted .slots, z .texts))
-
     pub store-step : mem′ ≡ putTexts d (textsPart d mem′) mem → (e : Document) → e ≡ withTexts d (r .counts)
         → Step d mem e mem′ (setPool (decode d mem) (stored (decode d mem .pool) t))
     store-step em e ee =
-        let p = stored (decode d mem .pool) t in
-        let stepped = texts-step d mem (s .memory) (s .ready .counts) (s .ready .lengths) (r .counts) (textsPart d mem′) (k .counted) p
-        (k .pool ∙ ap (λ (x : Pool). stored x t) (sym (pool-held d mem counted))) in
-        subst (λ (x : Document). Step d mem x mem′ (setPool (decode d mem) p)) (sym ee)
-        (subst (λ (x : List ℕ). Step d mem (withTexts d (r .counts)) x (setPool (decode d mem) p)) (sym em) stepped)
+        texts-changed d mem (s .memory) (s .ready .counts) (s .ready .lengths) mem′ (r .counts) (k .counted) em (stored (decode d mem .pool) t)
+        (k .pool ∙ ap (λ (x : Pool). stored x t) (sym (pool-held d mem counted))) e ee
 
     pub stored-field : (f : Chars) → slotOf f ≡ fieldOf (r .field) → slotOf f ≡ storedSlot (decode d mem .pool) t
     stored-field f q = q ∙ k .field ∙ ap (λ (x : Pool). storedSlot x t) (sym (pool-held d mem counted))
 
 -- ---- the pool's field as a node's
 
-module _ (f : TextField) (s : ℕ) (e : f ≡ Slot s) (h : FieldFits f) where
-  pub slot-narrow : s < 4294967296
-  slot-narrow = subst FieldFits e h
-
-  pub slot-field : (some s ≡ fieldOf f) × (s < 4294967296)
-  slot-field = (sym (ap fieldOf e), slot-narrow)
+pub slot-field : (f : TextField) (s : TextSlot) → f ≡ Slot s → s .0 < 4294967296 → (some (s .0) ≡ fieldOf f) × (s .0 < 4294967296)
+slot-field f s e h = (sym (ap fieldOf e), h)
 
 -- ---- two texts stored, one after the other
 

@@ -14,9 +14,9 @@ use Rattle.words.proofs.Lists.{length-tabulate, getD-tabulate}
 use Rattle.slots.specs.Regions.{generationAt, freeAt}
 use Rattle.slots.specs.Slots.{hasSlot, CanTake}
 use Rattle.model.specs.Calls.{slotFitsFrom}
-use Rattle.memory.specs.declared.layout.Document.{Document}
+use Rattle.layout.specs.declared.Document.{Document}
 use Rattle.memory.specs.Decode.{slotsPart, slotsMade, slotsFree, decode}
-use Rattle.memory.proofs.Limits.{sizes}
+use Rattle.layout.proofs.Sizes.{sizes}
 use Rattle.memory.proofs.Shaped.{length-slotsPart}
 use Rattle.edits.specs.Slot.{CanBear}
 

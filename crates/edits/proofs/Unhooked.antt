@@ -11,7 +11,7 @@ use Rattle.blocks.specs.Arena.{Block, block, removed, hasRoom}
 use Rattle.blocks.specs.Rule.{Inside, BlocksApart, at}
 use Rattle.blocks.proofs.Apart.{at-same, at-other}
 use Rattle.blocks.proofs.Removal.{remove-promise}
-use Rattle.slots.specs.Handles.{handleIndex}
+use Rattle.records.specs.Handles.{handleIndex}
 use Rattle.model.specs.Kinds.{Which, sameWhich, whichOf}
 use Rattle.model.specs.Doc.{Doc, liveSlot, kindIn, kindAt, parentAt, rangeIn}
 use Rattle.model.specs.Rules.{hasRange, Blocks, blockIn}

@@ -7,13 +7,13 @@ use Prim.Native.Nat.{ℕ}
 use lib.ListN.{length}
 use Rattle.blocks.specs.Arena.{hasRoom}
 use Rattle.blocks.specs.Rule.{Inside}
-use Rattle.slots.specs.Handles.{handleIndex}
+use Rattle.records.specs.Handles.{handleIndex}
 use Rattle.model.specs.Kinds.{Which, children, whichOf}
 use Rattle.model.specs.Doc.{Doc, liveSlot, kindIn, kindAt, parentAt, rangeIn}
 use Rattle.model.specs.Rules.{hasRange}
 use Rattle.model.specs.Edits.{unhook}
-use Rattle.memory.specs.declared.layout.Document.{Document}
-use Rattle.memory.specs.Layout.{memoryOk}
+use Rattle.layout.specs.declared.Document.{Document}
+use Rattle.layout.specs.Layout.{memoryOk}
 use Rattle.memory.specs.Decode.{decode}
 use Rattle.memory.specs.Entries.{BlockHeld, BlockOpen}
 

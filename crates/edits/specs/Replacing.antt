@@ -5,14 +5,14 @@ use mathlib.Core.Option.{some}
 use mathlib.Core.List.{List}
 use Prim.Native.Nat.{ℕ, _<_}
 use lib.ListN.{length}
-use Rattle.slots.specs.declared.Chars.{Chars}
-use Rattle.slots.specs.declared.NodeData.{NodeData}
-use Rattle.slots.specs.declared.NodeData.the-variants.{Root, Element, Attr, Text, Comment, Namespace, ProcessingInstruction}
-use Rattle.slots.specs.declared.Node.{Node}
+use Rattle.records.specs.declared.Chars.{Chars}
+use Rattle.records.specs.declared.NodeData.{NodeData}
+use Rattle.records.specs.declared.NodeData.the-variants.{Root, Element, Attr, Text, Comment, Namespace, ProcessingInstruction}
+use Rattle.records.specs.declared.Node.{Node}
 use Rattle.model.specs.Doc.{resolves, bytesAt}
 use Rattle.model.specs.Calls.{textFits, replacementFits, replaceableAt}
-use Rattle.memory.specs.declared.layout.Document.{Document}
-use Rattle.memory.specs.Layout.{memoryOk}
+use Rattle.layout.specs.declared.Document.{Document}
+use Rattle.layout.specs.Layout.{memoryOk}
 use Rattle.memory.specs.Decode.{decode}
 use Rattle.memory.specs.Undamaged.{Undamaged}
 

@@ -1,44 +1,24 @@
 -- A slot is taken for a new node.
 use mathlib.Core.Path.{_≡_}
-use mathlib.Core.Bool.{true, false}
+use mathlib.Core.Bool.{true}
 use mathlib.Core.Option.{none}
 use mathlib.Core.List.{List}
 use Prim.Native.Nat.{ℕ, _%_, _<_}
 use lib.ListN.{length, getD}
 use Rattle.blocks.specs.Arena.{block}
-use Rattle.slots.specs.Fields.{NodeFits}
-use Rattle.slots.specs.Handles.{handleIndex}
-use Rattle.slots.specs.declared.Range.{Range}
-use Rattle.slots.specs.declared.Parent.the-variants.{None}
-use Rattle.slots.specs.declared.NodeData.{NodeData}
-use Rattle.slots.specs.declared.Node.{Node}
+use Rattle.records.specs.Fields.{NodeFits}
+use Rattle.records.specs.Handles.{handleIndex}
+use Rattle.records.specs.declared.Range.{Range}
+use Rattle.records.specs.declared.Parent.the-variants.{None}
+use Rattle.records.specs.declared.NodeData.{NodeData}
+use Rattle.records.specs.declared.Node.{Node}
 use Rattle.model.specs.Kinds.{Which}
 use Rattle.model.specs.Doc.{Doc, generationAt}
 use Rattle.model.specs.Calls.{slotFits}
-use Rattle.memory.specs.declared.layout.Counts.{Counts}
-use Rattle.memory.specs.declared.layout.Document.{Document}
-use Rattle.memory.specs.Layout.{memoryOk}
+use Rattle.layout.specs.declared.Document.{Document}
+use Rattle.layout.specs.Layout.{memoryOk}
 use Rattle.memory.specs.Decode.{handleOf, rangeOf, decode}
-use Rattle.memory.specs.Writing.{recordWith}
 use Rattle.edits.specs.Asked.{RoomIn}
-
--- the record with other counts of the slots made and free; the order is not current any more
-abbrev pub slotCounts : Counts → ℕ → ℕ → Counts
-slotCounts c made free = record {
-  slots = made;
-  free = free;
-  children = c .children;
-  attributes = c .attributes;
-  namespaces = c .namespaces;
-  texts = c .texts;
-  freetexts = c .freetexts;
-  textbytes = c .textbytes;
-  names = c .names;
-  namebytes = c .namebytes;
-}
-
-abbrev pub withSlots : Document → ℕ → ℕ → Document
-withSlots d made free = recordWith d (slotCounts (d .counts) made free) false
 
 -- what taking a slot asks of a document: of rules 1 and 2 that counts and generations are in their fields and the free list holds slots made of odd generation, and a slot
 pub record SlotReady (D : Doc) : Type 0 where

@@ -2,19 +2,17 @@
 use mathlib.Core.Path.{_≡_}
 use mathlib.Core.Bool.{true}
 use mathlib.Core.List.{List}
-use Prim.Native.Nat.{ℕ, _≤_, _<_}
+use Prim.Native.Nat.{ℕ, _≤_}
 use lib.ListN.{length}
 use lib.Dec.{eqb}
 use Rattle.words.specs.Lists.{countOf}
 use Rattle.texts.specs.Pool.{slotsFor}
 use Rattle.texts.specs.Rule.{FreeTexts}
-use Rattle.texts.specs.declared.edits.TextField.{TextField}
-use Rattle.texts.specs.declared.edits.TextField.the-variants.{Nothing, Slot}
 use Rattle.names.specs.Table.{Name}
 use Rattle.model.specs.Doc.{Doc}
 use Rattle.model.specs.Calls.{textFits, twoFit, nameFitsIn}
-use Rattle.memory.specs.declared.layout.Document.{Document}
-use Rattle.memory.specs.Layout.{memoryOk}
+use Rattle.layout.specs.declared.Document.{Document}
+use Rattle.layout.specs.Layout.{memoryOk}
 use Rattle.memory.specs.Decode.{decode}
 
 -- of rules 1 and 8: counts within their limits, lengths that add up, and a stack of released slots, each once and with an empty text
@@ -35,11 +33,6 @@ pub record TwoStorable (d : Document) (mem first second : List ℕ) : Type 0 whe
   pub memory : memoryOk d (length mem) ≡ true
   pub ready : TextsReady (decode d mem)
   pub room : twoFit (decode d mem) first second ≡ true
-
--- a slot that a node's word can hold
-abbrev pub FieldFits : TextField → Type 0
-FieldFits Nothing = Unit {0}
-FieldFits (Slot s) = s < 4294967296
 
 -- of rules 1 and 8 for names: counts within their limits, and lengths that add up
 pub record NamesReady (D : Doc) : Type 0 where

@@ -1,9 +1,9 @@
 // A new node goes to the end of a list.
 ghost use mathlib.Core.Path.{_≡_};
-ghost use Rattle.slots.specs.Handles.{wordOf};
+ghost use Rattle.records.specs.Handles.{wordOf};
 ghost use Rattle.model.specs.Edits.{nextHandle};
 ghost use Rattle.model.specs.Calls.{append-element, append-text, append-comment, append-pi, made, appended};
-ghost use Rattle.memory.specs.Layout.{whichOf};
+ghost use Rattle.layout.specs.Layout.{whichOf};
 ghost use Rattle.memory.specs.Decode.{kindOf, decode};
 ghost use Rattle.memory.specs.Step.{Step};
 ghost use Rattle.memory.specs.Performed.{Admitted, Performed};
@@ -15,12 +15,12 @@ use crate::interning::intern_name;
 use crate::moves::attach_last;
 use crate::storing::store_text;
 use crate::storing::store_two;
-use memory::layout::Arena;
-use memory::layout::Document;
-use slots::Node;
-use slots::NodeData;
-use slots::NodeId;
-use slots::Range;
+use layout::Arena;
+use layout::Document;
+use records::Node;
+use records::NodeData;
+use records::NodeId;
+use records::Range;
 
 // Its texts and its name are stored before.
 pub fn append_node(

@@ -2,8 +2,8 @@
 ghost use mathlib.Core.Path.{_≡_};
 ghost use mathlib.Core.Option.{none, some};
 ghost use Prim.Native.Nat.{_<_};
-ghost use Rattle.slots.specs.Fields.{CharsFit};
-ghost use Rattle.slots.specs.Handles.{wordOf};
+ghost use Rattle.records.specs.Fields.{CharsFit};
+ghost use Rattle.records.specs.Handles.{wordOf};
 ghost use Rattle.texts.specs.Pool.{stored, storedSlot};
 ghost use Rattle.names.specs.Table.{name, numberOf, interned};
 ghost use Rattle.model.specs.Calls.{set-attribute, declare-namespace, done, made, findAttribute, findNamespace};
@@ -19,12 +19,12 @@ use crate::interning::intern_name;
 use crate::replace::do_replace_text;
 use crate::storing::store_text;
 use crate::storing::store_two;
-use memory::layout::Arena;
-use memory::layout::Document;
-use slots::Chars;
-use slots::NameId;
-use slots::NodeData;
-use slots::NodeId;
+use layout::Arena;
+use layout::Document;
+use records::Chars;
+use records::NodeData;
+use records::NodeId;
+use words::NameId;
 
 // The record after an attribute's name and value were stored, the name's number, and what the node's field holds.
 struct StoredAttribute {

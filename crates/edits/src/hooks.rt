@@ -1,23 +1,23 @@
 // A node is taken off its parent, and put under another.
 ghost use mathlib.Core.Path.{_≡_};
 ghost use mathlib.Core.Option.{some, none};
-ghost use Rattle.slots.specs.Handles.{wordOf};
-ghost use Rattle.slots.specs.Fields.{ParentFits};
-ghost use Rattle.slots.specs.declared.Loaded.the-variants.{Found};
+ghost use Rattle.records.specs.Handles.{wordOf};
+ghost use Rattle.records.specs.Fields.{ParentFits};
+ghost use Rattle.records.specs.declared.Loaded.the-variants.{Found};
 ghost use Rattle.model.specs.Kinds as kinds;
 ghost use Rattle.model.specs.Edits.{setParent, unlink, unhook, attach};
-ghost use Rattle.memory.specs.Layout.{whichOf};
+ghost use Rattle.layout.specs.Layout.{whichOf};
 ghost use Rattle.memory.specs.Decode.{kindOf, handleOf, loadedAt, slotsPart, decode};
 ghost use Rattle.memory.specs.Step.{Step};
 ghost use Rattle.edits.specs.Asked.{NodeHeld, Hooked, Attachable};
-use memory::layout::Arena;
-use memory::layout::Document;
-use slots::Loaded;
-use slots::Node;
-use slots::NodeData;
-use slots::NodeId;
-use slots::NodeSlot;
-use slots::Parent;
+use layout::Arena;
+use layout::Document;
+use records::Loaded;
+use records::Node;
+use records::NodeData;
+use records::NodeId;
+use records::Parent;
+use words::NodeSlot;
 
 // The node has another parent, or none; the order is not current any more.
 pub fn set_parent(d: Document, mem: &mut [u64], id: NodeId, parent: Parent) -> Document
@@ -26,7 +26,7 @@ pub fn set_parent(d: Document, mem: &mut [u64], id: NodeId, parent: Parent) -> D
 {
     let slot = NodeSlot(id.index);
     memory::write::put_parent(d, mem, slot, parent);
-    memory::write::outdated(d)
+    layout::record::outdated(d)
 }
 
 // The arena of a parent that a node of this kind stands in.
@@ -56,7 +56,7 @@ fn unlink_node(d: Document, mem: &mut [u64], id: NodeId, node: Node) -> Document
         Parent::None => d,
         Parent::Of(above) => {
             let owner = NodeSlot(above.index);
-            memory::entries::drop_entry(d, mem, arena, owner, slots::handle::word_of(id))
+            memory::block::drop_entry(d, mem, arena, owner, records::handle::word_of(id))
         }
     }
 }
@@ -96,6 +96,6 @@ pub fn attach(
 {
     let adopted = set_parent(d, mem, id, Parent::Of(parent));
     let owner = NodeSlot(parent.index);
-    let word = slots::handle::word_of(id);
-    memory::entries::insert_entry(adopted, mem, arena, owner, at, word)
+    let word = records::handle::word_of(id);
+    memory::block::insert_entry(adopted, mem, arena, owner, at, word)
 }

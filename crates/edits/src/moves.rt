@@ -1,10 +1,10 @@
 // A node goes to the end of a list, or from one parent to another.
 ghost use lib.ListN.{length};
-ghost use Rattle.slots.specs.Handles.{wordOf};
+ghost use Rattle.records.specs.Handles.{wordOf};
 ghost use Rattle.model.specs.Kinds.{children};
 ghost use Rattle.model.specs.Doc.{listAt};
 ghost use Rattle.model.specs.Edits.{unhook, attach};
-ghost use Rattle.memory.specs.Layout.{whichOf};
+ghost use Rattle.layout.specs.Layout.{whichOf};
 ghost use Rattle.memory.specs.Decode.{decode};
 ghost use Rattle.model.specs.Calls.{detach, reparent, insert-at, done};
 ghost use Rattle.memory.specs.Step.{Step};
@@ -12,10 +12,10 @@ ghost use Rattle.memory.specs.Performed.{Admitted, Performed};
 ghost use Rattle.edits.specs.Asked.{Attachable, Movable};
 use crate::hooks::attach;
 use crate::hooks::unhook;
-use memory::layout::Arena;
-use memory::layout::Document;
-use slots::NodeId;
-use slots::NodeSlot;
+use layout::Arena;
+use layout::Document;
+use records::NodeId;
+use words::NodeSlot;
 
 // A node without a parent goes to the end of a parent's block.
 pub fn attach_last(
@@ -29,7 +29,7 @@ pub fn attach_last(
     ensures { λ r. ⌜ Step d (now (mem .entry)) r (now (mem .exit)) (attach (decode d (now (mem .entry))) (whichOf arena) (wordOf parent) (length (listAt (decode d (now (mem .entry))) (whichOf arena) (wordOf parent))) (wordOf id)) ⌝ }
 {
     let owner = NodeSlot(parent.index);
-    let block = memory::entries::block_of(d, &mem[..], owner, arena);
+    let block = memory::block::block_of(d, &mem[..], owner, arena);
     let len = block.len;
     attach(d, mem, arena, parent, len as usize, id)
 }

@@ -1,37 +1,33 @@
 // A text in place of a node's own: in its slot, or, where the text was stored empty, in one that it gets. The order stays current.
 ghost use mathlib.Core.Path.{_≡_};
 ghost use mathlib.Core.Option.{none, some};
-ghost use Rattle.slots.specs.Fields.{CharsFit};
-ghost use Rattle.slots.specs.Handles.{wordOf};
-ghost use Rattle.slots.specs.declared.Loaded.the-variants.{Found};
+ghost use Rattle.records.specs.Fields.{CharsFit};
+ghost use Rattle.records.specs.Handles.{wordOf};
+ghost use Rattle.records.specs.declared.Loaded.the-variants.{Found};
 ghost use Rattle.texts.specs.Pool.{replaced};
-ghost use Rattle.texts.specs.Words.{ReplacedTo};
 ghost use Rattle.model.specs.Kinds.{withText};
 ghost use Rattle.model.specs.Doc.{kindAt};
 ghost use Rattle.model.specs.Edits.{setKind};
 ghost use Rattle.model.specs.Calls.{set-text, done, withReplaced, replaceableAt};
-ghost use Rattle.memory.specs.Decode.{slotOf, loadedAt, slotsPart, textLimits, textCounts, textsPart, decode};
+ghost use Rattle.memory.specs.Decode.{slotOf, loadedAt, slotsPart, decode};
 ghost use Rattle.memory.specs.Step.{Step};
 ghost use Rattle.memory.specs.Performed.{Admitted, Performed};
 ghost use Rattle.edits.specs.Asked.{NodeHeld};
-ghost use Rattle.edits.specs.Pooled.{putTexts, setPool};
+ghost use Rattle.edits.specs.Pooled.{setPool};
 ghost use Rattle.edits.specs.Stores.{Storable};
 ghost use Rattle.edits.specs.Replacing.{withField, filled, Overwritable, Replaceable};
 use crate::storing::store_text;
-use crate::storing::with_texts;
-use memory::layout::Document;
-use memory::layout::texts_at;
-use memory::stored::text_counts;
+use layout::Document;
+use layout::record::with_texts;
+use memory::parts::write_over;
 use memory::stored::text_field;
-use memory::stored::text_limits;
-use slots::Chars;
-use slots::Loaded;
-use slots::Node;
-use slots::NodeData;
-use slots::NodeId;
-use slots::NodeSlot;
-use slots::TextSlot;
-use texts::TextCounts;
+use records::Chars;
+use records::Loaded;
+use records::Node;
+use records::NodeData;
+use records::NodeId;
+use words::NodeSlot;
+use words::TextSlot;
 
 fn with_field(data: NodeData, field: Chars) -> NodeData
     ensures { λ r. ⌜ r ≡ withField «data» field ⌝ }
@@ -85,21 +81,6 @@ fn fill_field(d: Document, mem: &mut [u64], id: NodeId, text: &[u8]) -> Document
     let field = stored.field;
     put_field(document, mem, id, field);
     document
-}
-
-// The words of the texts are lent to the pool.
-fn write_over(d: Document, mem: &mut [u64], slot: TextSlot, text: &[u8]) -> TextCounts
-    requires { ⌜ Overwritable d (now mem) (slot .0) (now text) ⌝ }
-    ensures { λ r. ⌜ ReplacedTo (textLimits d) (textCounts d) (textsPart d (now (mem .entry))) (textsPart d (now (mem .exit))) (slot .0) (now (text .entry)) r ⌝ }
-    ensures { λ _. ⌜ now (mem .exit) ≡ putTexts d (textsPart d (now (mem .exit))) (now (mem .entry)) ⌝ }
-{
-    let l = d.limits;
-    let limits = text_limits(d);
-    let counts = text_counts(d);
-    let start = texts_at(l);
-    let end = start + (l.texts + l.texts + l.textbytes);
-    let number = slot.0;
-    texts::edits::replace_text(&mut mem[start..end], limits, counts, number as usize, text)
 }
 
 // A text that has a slot keeps it.

@@ -1,22 +1,17 @@
 // Texts are stored in the document's pool.
 ghost use mathlib.Core.Path.{_≡_};
-ghost use Rattle.slots.specs.Fields.{CharsFit};
+ghost use Rattle.records.specs.Fields.{CharsFit};
 ghost use Rattle.texts.specs.Pool.{stored, storedSlot};
-ghost use Rattle.texts.specs.Words.{fieldOf, StoredTo};
-ghost use Rattle.memory.specs.Decode.{slotOf, textLimits, textCounts, textsPart, decode};
+ghost use Rattle.texts.specs.Words.{fieldOf};
+ghost use Rattle.memory.specs.Decode.{slotOf, decode};
 ghost use Rattle.memory.specs.Step.{Step};
-ghost use Rattle.edits.specs.Pooled.{putTexts, withTexts, setPool};
-ghost use Rattle.edits.specs.Stores.{FieldFits, Storable, TwoStorable};
-use memory::layout::Counts;
-use memory::layout::Document;
-use memory::layout::texts_at;
-use memory::stored::text_counts;
-use memory::stored::text_limits;
-use slots::Chars;
-use slots::TextSlot;
-use texts::TextCounts;
-use texts::edits::Stored;
-use texts::edits::TextField;
+ghost use Rattle.edits.specs.Pooled.{setPool};
+ghost use Rattle.edits.specs.Stores.{Storable, TwoStorable};
+use layout::Document;
+use layout::record::with_texts;
+use memory::parts::write_text;
+use records::Chars;
+use texts::storing::TextField;
 
 // The record after a text was stored, and what the node's field holds.
 pub struct StoredText {
@@ -31,54 +26,14 @@ pub struct StoredTexts {
     pub second: Chars,
 }
 
-// The record with other counts of the texts; the order stays as it is.
-pub fn with_texts(d: Document, t: TextCounts) -> Document
-    ensures { λ r. ⌜ r ≡ withTexts d t ⌝ }
-{
-    let limits = d.limits;
-    let c = d.counts;
-    let counts = Counts {
-        slots: c.slots,
-        free: c.free,
-        children: c.children,
-        attributes: c.attributes,
-        namespaces: c.namespaces,
-        texts: t.slots,
-        freetexts: t.free,
-        textbytes: t.bytes,
-        names: c.names,
-        namebytes: c.namebytes,
-    };
-    Document {
-        limits,
-        counts,
-        current: d.current,
-    }
-}
-
 // The pool's field as a node's.
 fn chars_of(field: TextField) -> Chars
-    requires { ⌜ FieldFits field ⌝ }
     ensures { λ r. ⌜ (slotOf r ≡ fieldOf field) × CharsFit r ⌝ }
 {
     match field {
         TextField::Nothing => Chars::Empty,
-        TextField::Slot(s) => Chars::Expanded(TextSlot(s as u32)),
+        TextField::Slot(slot) => Chars::Expanded(slot),
     }
-}
-
-// The words of the texts are lent to the pool.
-fn write_text(d: Document, mem: &mut [u64], text: &[u8]) -> Stored
-    requires { ⌜ Storable d (now mem) (now text) ⌝ }
-    ensures { λ r. ⌜ StoredTo (textLimits d) (textCounts d) (textsPart d (now (mem .entry))) (textsPart d (now (mem .exit))) (now (text .entry)) r ⌝ }
-    ensures { λ _. ⌜ now (mem .exit) ≡ putTexts d (textsPart d (now (mem .exit))) (now (mem .entry)) ⌝ }
-{
-    let l = d.limits;
-    let limits = text_limits(d);
-    let counts = text_counts(d);
-    let start = texts_at(l);
-    let end = start + (l.texts + l.texts + l.textbytes);
-    texts::edits::store_text(&mut mem[start..end], limits, counts, text)
 }
 
 // The node's field is written by whoever makes the node.

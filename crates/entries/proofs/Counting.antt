@@ -14,18 +14,18 @@ use Rattle.words.specs.Parts.{part}
 use Rattle.words.specs.Lists.{all, allBelow}
 use Rattle.words.proofs.Parts.{length-part, getD-part}
 use Rattle.blocks.specs.Arena.{block, capOf}
-use Rattle.slots.specs.Handles.{handleIndex}
+use Rattle.records.specs.Handles.{handleIndex}
 use Rattle.model.specs.Kinds.{Which, children, attributes, namespaces}
 use Rattle.model.specs.Doc.{Doc, liveSlot, handleAt, parentIn, rangeIn, isNone}
 use Rattle.model.specs.Rules.{blockIn, Blocks}
 use Rattle.model.specs.RulesTest.{implies, allOption, allWhich, parentsHold, entriesHold, blocksHold}
-use Rattle.model.proofs.RulesTestEntries.{parents-of-test}
-use Rattle.model.proofs.RulesTestBlocks.{blocks-of-test}
-use Rattle.memory.specs.declared.layout.Document.{Document}
-use Rattle.memory.specs.Layout.{entriesOf, limitsOf, arenaAt, memoryOk}
+use Rattle.laws.proofs.RulesTestEntries.{parents-of-test}
+use Rattle.laws.proofs.RulesTestBlocks.{blocks-of-test}
+use Rattle.layout.specs.declared.Document.{Document}
+use Rattle.layout.specs.Layout.{entriesOf, limitsOf, arenaAt, memoryOk}
 use Rattle.memory.specs.Decode.{slotsMade}
 use Rattle.memory.proofs.Columns as columns
-use Rattle.memory.proofs.Limits.{sizes}
+use Rattle.layout.proofs.Sizes.{sizes}
 use Rattle.memory.proofs.Reading.{entries-read}
 use Rattle.memory.proofs.Shaped.{length-ids, shape}
 use Rattle.entries.specs.Nodes.{noTexts, decodeNodes, wordsHold, recordWord, blockAt}

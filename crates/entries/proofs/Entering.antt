@@ -12,18 +12,17 @@ use lib.ListN.{length, getD}
 use lib.Dec.{eqb}
 use borrow.Author.Tests.{eqb-true, eq-eqb, ne-eqb}
 use Rattle.words.specs.Lists.{countOf, all, allBelow}
-use Rattle.words.proofs.Lists.{allBelow-at}
+use Rattle.words.proofs.Lists.{allBelow-at, allBelow-same}
 use Rattle.words.proofs.Tests.{and-left, and-right}
-use Rattle.slots.specs.Handles.{handleIndex, handleGeneration}
-use Rattle.slots.proofs.Lists.{allBelow-same}
+use Rattle.records.specs.Handles.{handleIndex, handleGeneration}
 use Rattle.model.specs.Kinds.{Which, children, attributes, namespaces, sameWhich, whichOf}
 use Rattle.model.specs.Doc.{Doc, generationAt, liveSlot, handleAt, resolves, kindIn, kindAt, parentIn, parentAt, listIn, listAt, anyOption}
 use Rattle.model.specs.Rules.{Parents}
 use Rattle.model.specs.RulesTest.{implies, allOption, allWhich, allLive, enteredOnce, entryHolds, entriesHold}
-use Rattle.model.proofs.Handles.{index-handleWord, generation-handleWord, handle-same}
-use Rattle.model.proofs.Basics.{live-below}
-use Rattle.model.proofs.Counting.{all-mem}
-use Rattle.model.proofs.Quantifiers.{which-at}
+use Rattle.laws.proofs.Handles.{index-handleWord, generation-handleWord, handle-same}
+use Rattle.laws.proofs.Basics.{live-below}
+use Rattle.laws.proofs.Counting.{all-mem}
+use Rattle.laws.proofs.Quantifiers.{which-at}
 use Rattle.entries.specs.Marks.{Counted, gathered}
 use Rattle.entries.specs.Entering.{enters, entriesIn, entriesEnter, slotsEntered, listsEnter, slotsNamed, markedOnce}
 use Rattle.entries.proofs.Lists.{countOf-same, countOf-none, countOf-map, gathered-joined, gathered-none, gathered-one, allBelow-and}

@@ -11,13 +11,13 @@ use lib.ListN.{getD}
 use lib.Dec.{eqb, ltb}
 use borrow.Author.Tests.{eq-eqb, ne-eqb, lt-ltb, le-ltb, ltb-true}
 use Rattle.words.proofs.Tests.{and-left}
-use Rattle.slots.specs.Handles.{handleIndex, handleGeneration}
-use Rattle.slots.specs.Records.{parentOf}
+use Rattle.records.specs.Handles.{handleIndex, handleGeneration}
+use Rattle.records.specs.Records.{parentOf}
 use Rattle.model.specs.Kinds.{Kind, root, element, attribute, text, comment, namespace, instruction, Which, children, attributes, namespaces, sameWhich, whichOf}
 use Rattle.model.specs.Doc as doc
 use Rattle.model.specs.Doc.{Doc, handleWord, liveSlot, resolves, kindIn, parentIn, anyOption}
-use Rattle.model.proofs.Handles.{index-handleWord, generation-handleWord, handleWord-halves}
-use Rattle.memory.specs.declared.layout.Document.{Document}
+use Rattle.laws.proofs.Handles.{index-handleWord, generation-handleWord, handleWord-halves}
+use Rattle.layout.specs.declared.Document.{Document}
 use Rattle.memory.specs.Decode.{handleOf, slotsMade}
 use Rattle.memory.proofs.Columns as columns
 use Rattle.entries.specs.Nodes.{noTexts, decodeNodes, wordsHold, recordWord, kindNumber}

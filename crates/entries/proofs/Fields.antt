@@ -9,9 +9,9 @@ use native.Mathlib.Omega.{arith}
 use lib.ListN.{length, getD, set}
 use lib.Dec.{ltb}
 use borrow.Author.Tests.{lt-ltb, le-ltb}
-use Rattle.slots.specs.declared.TextSlot.{TextSlot}
-use Rattle.slots.specs.declared.Chars.{Chars}
-use Rattle.slots.specs.declared.Chars.the-variants.{Empty, Expanded}
+use Rattle.words.specs.declared.TextSlot.{TextSlot}
+use Rattle.records.specs.declared.Chars.{Chars}
+use Rattle.records.specs.declared.Chars.the-variants.{Empty, Expanded}
 use Rattle.words.specs.Lists.{all}
 use Rattle.model.specs.Kinds.{Kind, root, element, attribute, text, comment, namespace, instruction, textsOf}
 use Rattle.model.specs.Doc.{Doc, liveSlot, kindIn}

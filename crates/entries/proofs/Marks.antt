@@ -11,7 +11,7 @@ use lib.Seq.{getD-set-same, getD-set-other}
 use lib.Dec.{eqb}
 use borrow.Author.Tests.{eq-eqb, ne-eqb}
 use Rattle.words.specs.Lists.{countOf, allBelow}
-use Rattle.slots.proofs.Lists.{allBelow-next, allBelow-not, countOf-snoc}
+use Rattle.words.proofs.Lists.{allBelow-next, allBelow-not, countOf-snoc}
 use Rattle.entries.specs.Marks.{raised, Counted, Adds, Pass, gathered}
 use Rattle.entries.proofs.Lists.{gathered-next}
 

@@ -13,16 +13,16 @@ use lib.Dec.{eqb, leb}
 use borrow.Author.Tests.{eq-eqb, ne-eqb, leb-true, le-leb, lt-leb}
 use Rattle.words.specs.Lists.{countOf}
 use Rattle.words.proofs.Lists.{length-tabulate}
-use Rattle.slots.specs.Handles.{handleIndex, wordOf}
+use Rattle.records.specs.Handles.{handleIndex, wordOf}
 use Rattle.model.specs.Doc.{Doc, liveSlot, resolves, parentIn, mapOption, orElse}
 use Rattle.model.specs.Rules.{Ends}
 use Rattle.model.specs.RulesTest.{allOption, allLive, endsWithin, parentsHold, parentsEndHolds}
-use Rattle.model.proofs.Basics.{live-below}
-use Rattle.model.proofs.Handles.{index-handleWord}
-use Rattle.model.proofs.Quantifiers.{live-at}
-use Rattle.model.proofs.RulesTestEntries.{parents-of-test}
-use Rattle.model.proofs.RulesTestPaths.{test-of-ends}
-use Rattle.memory.specs.declared.layout.Document.{Document}
+use Rattle.laws.proofs.Basics.{live-below}
+use Rattle.laws.proofs.Handles.{index-handleWord}
+use Rattle.laws.proofs.Quantifiers.{live-at}
+use Rattle.laws.proofs.RulesTestEntries.{parents-of-test}
+use Rattle.laws.proofs.RulesTestPaths.{test-of-ends}
+use Rattle.layout.specs.declared.Document.{Document}
 use Rattle.memory.specs.Decode.{parentLoaded, loadedAt, slotsPart, slotsMade}
 use Rattle.memory.proofs.Columns as columns
 use Rattle.entries.specs.Nodes.{noTexts, decodeNodes, recordWord}

@@ -13,9 +13,8 @@ use Rattle.words.specs.Parts.{part}
 use Rattle.words.specs.Lists.{countOf, all, allBelow}
 use Rattle.words.specs.Ends.{startOf, lengthOf}
 use Rattle.words.proofs.Parts.{length-part}
-use Rattle.words.proofs.Lists.{length-tabulate, getD-tabulate}
+use Rattle.words.proofs.Lists.{length-tabulate, getD-tabulate, allBelow-next, allBelow-not, allBelow-same}
 use Rattle.words.proofs.Tests.{and-left, and-right, eqb-same}
-use Rattle.slots.proofs.Lists.{allBelow-next, allBelow-not, allBelow-same}
 use Rattle.texts.specs.Words as pool
 use Rattle.texts.specs.Words.{textShown, freeOk, poolOk, Markable, marked}
 use Rattle.texts.proofs.Lists.{countOf-reverse, marked-at, getD-count, all-count}
@@ -26,10 +25,10 @@ use Rattle.model.specs.Kinds.{namesOf, textsOf}
 use Rattle.model.specs.Doc.{Doc, liveSlot, kindIn}
 use Rattle.model.specs.Rules.{held, heldIn, slotsHeld}
 use Rattle.model.specs.RulesTest.{implies, allLive, textsHold}
-use Rattle.memory.specs.declared.layout.Document.{Document}
-use Rattle.memory.specs.Layout.{limitsOf, memoryOk}
+use Rattle.layout.specs.declared.Document.{Document}
+use Rattle.layout.specs.Layout.{limitsOf, memoryOk}
 use Rattle.memory.specs.Decode.{slotsMade, countsWithin, textLimits, textCounts, nameLimits, nameCounts, textsPart, namesPart, poolIn, namesIn, textsAdd, namesAdd, lengthsAdd, decode}
-use Rattle.memory.proofs.Limits.{limits-fit, memory-limits}
+use Rattle.layout.proofs.Sizes.{limits-fit, memory-limits}
 use Rattle.memory.proofs.Counted.{CountsFit, counts-fit}
 use Rattle.memory.proofs.Columns as columns
 use Rattle.memory.proofs.Shown.{names-shown}

@@ -6,20 +6,22 @@ use mathlib.Core.List.{List, []}
 use Prim.Native.Nat.{ℕ, _%_, _<_}
 use native.Mathlib.Omega.{arith}
 use native.Mathlib.Decide.{ℕ-discrete}
-use lib.ListN.{getD}
+use lib.ListN.{length, getD}
 use lib.Dec.{eqb}
 use borrow.Author.Tests.{lt-ltb, ne-eqb}
 use Rattle.words.proofs.Tests.{and-left}
-use Rattle.slots.specs.Records.{foundNode}
+use Rattle.records.specs.Records.{foundNode}
 use Rattle.slots.specs.Regions.{generationAt, recordAt, nodeAt}
-use Rattle.slots.specs.Handles.{handleIndex, handleGeneration}
-use Rattle.slots.proofs.Records.{is-node-found}
+use Rattle.records.specs.Handles.{handleIndex, handleGeneration}
+use Rattle.records.proofs.Records.{is-node-found}
 use Rattle.slots.proofs.WordsRule.{words-rule-of}
-use Rattle.slots.specs.declared.Loaded.the-variants.{Found}
+use Rattle.records.specs.declared.Loaded.the-variants.{Found}
 use Rattle.model.specs.Doc as doc
 use Rattle.model.specs.Doc.{Doc, handleWord, handleAt, liveSlot, resolves}
-use Rattle.memory.specs.declared.layout.Document.{Document}
+use Rattle.layout.specs.declared.Document.{Document}
+use Rattle.layout.specs.Layout.{memoryOk}
 use Rattle.memory.specs.Decode.{loadedAt, slotsPart, slotsMade}
+use Rattle.layout.proofs.Sizes.{sizes}
 use Rattle.memory.proofs.Columns as columns
 pub use Rattle.memory.proofs.Words.{generation-word, record-word, live-below, kind-word, name-word, first-narrow, first-word, second-narrow, second-word, parent-narrow, parent-word, block-word, block-read, block-at-below}
 use Rattle.entries.specs.Nodes.{noTexts, decodeNodes, wordsHold}
@@ -51,6 +53,10 @@ module _ (d : Document) (mem : List ℕ) where
           rw same (sym (columns.live-found noTexts [] true d mem s b (foundNode (recordAt n w s)) f))
       go (no v) =
           rw same (ne-eqb (generationAt n w s % 2) 0 v ∙ sym (columns.live-in noTexts [] true d mem s b ∙ rw (ne-eqb (generationAt n w s % 2) 0 v)))
+
+-- the number of a live slot is of 32 bits
+pub live-narrow : (d : Document) (mem : List ℕ) → memoryOk d (length mem) ≡ true → (s : ℕ) → liveSlot (decodeNodes d mem) s ≡ true → s < 4294967296
+live-narrow d mem ok s l = omega (arith, live-below d mem s l, sizes d (length mem) ok .nodes)
 
 -- the node of a handle that resolves is live
 pub current-live : (D : Doc) (handle : ℕ) (t : Bool) → t ≡ resolves D handle → t ≡ true → liveSlot D (handle % 4294967296) ≡ true

@@ -5,7 +5,7 @@ use Prim.Native.Nat.{ℕ, _+_, _*_, _%_}
 use lib.ListN.{getD}
 use lib.Dec.{eqb, ltb}
 use Rattle.words.specs.Lists.{all}
-use Rattle.slots.specs.Handles.{handleIndex, handleGeneration}
+use Rattle.records.specs.Handles.{handleIndex, handleGeneration}
 use Rattle.model.specs.Kinds.{Which, children, attributes, namespaces, sameWhich, whichOf}
 use Rattle.model.specs.Doc.{Doc, liveSlot, handleAt, resolves, kindAt, parentIn, parentAt, listIn, anyOption}
 use Rattle.model.specs.RulesTest.{implies, allOption, allWhich}

@@ -14,7 +14,7 @@ use Rattle.model.specs.Kinds.{Kind, namesOf, textsOf}
 use Rattle.model.specs.Doc.{Doc, liveSlot, kindIn}
 use Rattle.model.specs.Rules.{heldIn, slotsHeld}
 use Rattle.model.specs.RulesTest.{implies}
-use Rattle.memory.specs.declared.layout.Document.{Document}
+use Rattle.layout.specs.declared.Document.{Document}
 use Rattle.memory.specs.Decode.{slotsMade, textLimits, textCounts, nameLimits, nameCounts, textsPart, namesPart}
 use Rattle.entries.specs.Nodes.{decodeNodes}
 use Rattle.entries.specs.Marks.{gathered}

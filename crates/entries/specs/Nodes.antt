@@ -5,7 +5,7 @@ use Prim.Native.Nat.{ℕ}
 use Rattle.slots.specs.WordsRule.{wordsRule}
 use Rattle.texts.specs.Pool.{Pool}
 use Rattle.model.specs.Doc.{Doc}
-use Rattle.memory.specs.declared.layout.Document.{Document}
+use Rattle.layout.specs.declared.Document.{Document}
 use Rattle.memory.specs.Decode.{decodeWith, slotsPart, slotsMade}
 unfoldable pub use Rattle.memory.specs.Words.{recordWord}
 pub use Rattle.memory.specs.Words.{blockAt, kindNumber, nameNumber, firstSlot, secondSlot}

@@ -5,7 +5,7 @@ use mathlib.Core.List.{List}
 use Prim.Native.Nat.{ℕ}
 use lib.ListN.{length, getD}
 use lib.Dec.{eqb, leb}
-use Rattle.slots.specs.Handles.{handleIndex}
+use Rattle.records.specs.Handles.{handleIndex}
 use Rattle.model.specs.Doc.{Doc, liveSlot, parentIn, mapOption, orElse}
 use Rattle.model.specs.Rules.{Ends}
 use Rattle.model.specs.RulesTest.{endsWithin}

@@ -8,10 +8,10 @@ ghost use lib.ListN.{length, getD, replicate};
 ghost use lib.Dec.{eqb};
 ghost use Rattle.words.specs.Parts.{part};
 ghost use Rattle.words.specs.Lists.{all, allBelow};
-ghost use Rattle.slots.specs.Handles.{handleIndex};
+ghost use Rattle.records.specs.Handles.{handleIndex};
 ghost use Rattle.model.specs.Doc.{liveSlot, handleAt, parentIn};
 ghost use Rattle.model.specs.RulesTest.{implies, allOption, parentsHold, entriesHold, blocksHold};
-ghost use Rattle.memory.specs.Layout.{memoryOk};
+ghost use Rattle.layout.specs.Layout.{memoryOk};
 ghost use Rattle.memory.specs.Decode.{slotsMade};
 ghost use Rattle.entries.specs.Nodes.{decodeNodes, wordsHold};
 ghost use Rattle.entries.specs.Marks.{Pass, gathered};
@@ -21,11 +21,12 @@ use crate::nodes::count;
 use crate::nodes::current_word;
 use crate::nodes::handle_of;
 use crate::nodes::is_live;
+use layout::Arena;
+use layout::Document;
+use layout::arena_at;
 use memory::fields::has_no_parent;
-use memory::layout::Arena;
-use memory::layout::Document;
-use memory::layout::arena_at;
 use memory::read::made;
+use words::NodeSlot;
 
 // The list of its parent that a node of a kind stands in.
 fn list_number(kind: u64) -> u64
@@ -186,7 +187,7 @@ fn entered_once(d: Document, mem: &[u64], s: usize, mark: u64) -> bool
         return true;
     }
     if is_live(d, mem, s) {
-        has_no_parent(d, mem, s)
+        has_no_parent(d, mem, NodeSlot(s as u32))
     } else {
         true
     }

@@ -7,13 +7,13 @@ ghost use lib.ListN.{length, replicate};
 ghost use Rattle.model.specs.Doc.{liveSlot};
 ghost use Rattle.model.specs.Rules.{Ends};
 ghost use Rattle.model.specs.RulesTest.{parentsHold, parentsEndHolds};
-ghost use Rattle.memory.specs.Layout.{memoryOk};
+ghost use Rattle.layout.specs.Layout.{memoryOk};
 ghost use Rattle.memory.specs.Decode.{slotsMade};
 ghost use Rattle.entries.specs.Nodes.{decodeNodes, wordsHold};
 ghost use Rattle.entries.specs.Paths.{parentSlot, Known, knownSlot, Followed, Passed};
 use crate::nodes::is_live;
 use crate::nodes::parent_word;
-use memory::layout::Document;
+use layout::Document;
 use memory::read::made;
 
 // The slot of a live slot's parent, and the number of slots made where it has none.

@@ -11,7 +11,7 @@ ghost use Rattle.texts.specs.Words.{poolOk, Markable, marked};
 ghost use Rattle.names.specs.Words.{tableOk};
 ghost use Rattle.model.specs.Doc.{liveSlot, kindIn};
 ghost use Rattle.model.specs.Rules.{heldIn, slotsHeld};
-ghost use Rattle.memory.specs.Layout.{limitsOf, memoryOk};
+ghost use Rattle.layout.specs.Layout.{limitsOf, memoryOk};
 ghost use Rattle.memory.specs.Decode.{slotOf, slotsMade, countsWithin, textLimits, textCounts, nameLimits, nameCounts, textsPart, namesPart};
 ghost use Rattle.entries.specs.Nodes.{decodeNodes};
 ghost use Rattle.entries.specs.Marks.{Counted, Pass, gathered};
@@ -21,14 +21,14 @@ use crate::nodes::first_text;
 use crate::nodes::kind_of;
 use crate::nodes::name_of;
 use crate::nodes::second_text;
-use memory::layout::Document;
+use layout::Document;
 use memory::stored::name_counts;
 use memory::stored::name_limits;
 use memory::stored::names_words;
 use memory::stored::text_counts;
 use memory::stored::text_limits;
 use memory::stored::texts_words;
-use slots::Chars;
+use records::Chars;
 
 // Whether the name number of an element or an attribute is below the name count.
 fn names_inside(d: Document, mem: &[u64], s: usize) -> bool

@@ -4,21 +4,22 @@ ghost use mathlib.Core.Bool.{true, _&&_};
 ghost use Prim.Native.Nat.{_<_, _≤_};
 ghost use lib.ListN.{length, getD, set};
 ghost use Rattle.model.specs.Doc.{handleAt, liveSlot, resolves, kindIn, parentIn, rangeIn};
-ghost use Rattle.memory.specs.Layout.{memoryOk, whichOf};
+ghost use Rattle.layout.specs.Layout.{memoryOk, whichOf};
 ghost use Rattle.memory.specs.Decode.{blockOf, handleOf, slotOf, slotsMade};
 ghost use Rattle.entries.specs.Nodes.{decodeNodes, wordsHold, recordWord, kindNumber, nameNumber, firstSlot, secondSlot};
 ghost use Rattle.entries.specs.Marks.{raised};
 ghost use Rattle.entries.specs.Entering.{currentWord};
+use layout::Arena;
+use layout::Document;
 use memory::fields::live_block;
 use memory::fields::live_parent;
 use memory::fields::record_word;
-use memory::layout::Arena;
-use memory::layout::Document;
 use memory::read::made;
-use slots::Chars;
-use slots::NodeId;
-use slots::Parent;
-use slots::Range;
+use records::Chars;
+use records::NodeId;
+use records::Parent;
+use records::Range;
+use words::NodeSlot;
 
 // Whether a slot is live, where rule 1 holds of the slots' words.
 pub fn is_live(d: Document, mem: &[u64], s: usize) -> bool
@@ -60,7 +61,7 @@ pub fn kind_of(d: Document, mem: &[u64], s: usize) -> u64
     requires { ⌜ (memoryOk d (length (now mem)) ≡ true) × (liveSlot (decodeNodes d (now mem)) s ≡ true) ⌝ }
     ensures { λ r. ⌜ r ≡ kindNumber (kindIn (decodeNodes d (now (mem .entry))) s) ⌝ }
 {
-    record_word(d, mem, s, 0)
+    record_word(d, mem, NodeSlot(s as u32), 0)
 }
 
 // The number of its name, 0 where its kind has none.
@@ -68,7 +69,7 @@ pub fn name_of(d: Document, mem: &[u64], s: usize) -> u64
     requires { ⌜ (memoryOk d (length (now mem)) ≡ true) × (liveSlot (decodeNodes d (now mem)) s ≡ true) ⌝ }
     ensures { λ r. ⌜ r ≡ nameNumber (kindIn (decodeNodes d (now (mem .entry))) s) ⌝ }
 {
-    record_word(d, mem, s, 1)
+    record_word(d, mem, NodeSlot(s as u32), 1)
 }
 
 // Its texts, empty where its kind has none.
@@ -76,21 +77,21 @@ pub fn first_text(d: Document, mem: &[u64], s: usize) -> Chars
     requires { ⌜ (memoryOk d (length (now mem)) ≡ true) × (liveSlot (decodeNodes d (now mem)) s ≡ true) ⌝ }
     ensures { λ r. ⌜ slotOf r ≡ firstSlot (kindIn (decodeNodes d (now (mem .entry))) s) ⌝ }
 {
-    slots::decode::chars_of(record_word(d, mem, s, 2))
+    records::decode::chars_of(record_word(d, mem, NodeSlot(s as u32), 2))
 }
 
 pub fn second_text(d: Document, mem: &[u64], s: usize) -> Chars
     requires { ⌜ (memoryOk d (length (now mem)) ≡ true) × (liveSlot (decodeNodes d (now mem)) s ≡ true) ⌝ }
     ensures { λ r. ⌜ slotOf r ≡ secondSlot (kindIn (decodeNodes d (now (mem .entry))) s) ⌝ }
 {
-    slots::decode::chars_of(record_word(d, mem, s, 3))
+    records::decode::chars_of(record_word(d, mem, NodeSlot(s as u32), 3))
 }
 
 pub fn parent_of(d: Document, mem: &[u64], s: usize) -> Parent
     requires { ⌜ (memoryOk d (length (now mem)) ≡ true) × (liveSlot (decodeNodes d (now mem)) s ≡ true) ⌝ }
     ensures { λ r. ⌜ handleOf r ≡ parentIn (decodeNodes d (now (mem .entry))) s ⌝ }
 {
-    live_parent(d, mem, s)
+    live_parent(d, mem, NodeSlot(s as u32))
 }
 
 // The word that tells the parent of a live slot: its slot, one up, and 0 where there is none.
@@ -98,7 +99,7 @@ pub fn parent_word(d: Document, mem: &[u64], s: usize) -> u64
     requires { ⌜ (memoryOk d (length (now mem)) ≡ true) × (liveSlot (decodeNodes d (now mem)) s ≡ true) ⌝ }
     ensures { λ r. ⌜ r ≡ recordWord d (now (mem .entry)) s 4 ⌝ }
 {
-    record_word(d, mem, s, 4)
+    record_word(d, mem, NodeSlot(s as u32), 4)
 }
 
 // The block of a live slot in an arena, none where its kind has no such list.
@@ -106,7 +107,7 @@ pub fn block_of(d: Document, mem: &[u64], arena: Arena, s: usize) -> Range
     requires { ⌜ (memoryOk d (length (now mem)) ≡ true) × (liveSlot (decodeNodes d (now mem)) s ≡ true) ⌝ }
     ensures { λ r. ⌜ blockOf r ≡ rangeIn (decodeNodes d (now (mem .entry))) (whichOf arena) s ⌝ }
 {
-    live_block(d, mem, s, arena)
+    live_block(d, mem, NodeSlot(s as u32), arena)
 }
 
 // The word of a slot's handle, where rule 1 holds of the slots' words.
@@ -115,7 +116,7 @@ pub fn handle_of(d: Document, mem: &[u64], s: usize) -> u64
     ensures { λ r. ⌜ r ≡ handleAt (decodeNodes d (now (mem .entry))) s ⌝ }
 {
     let generation = mem[s];
-    slots::handle::word_of(NodeId {
+    records::handle::word_of(NodeId {
         index: s as u32,
         generation: generation as u32,
     })

@@ -1,78 +1,78 @@
 // A walk below a node, step by step.
-use crate::calls::After;
-use crate::calls::MEMORY;
-use crate::calls::SCRATCH;
-use crate::calls::attribute;
-use crate::calls::element;
-use crate::calls::handle;
-use crate::checks::all;
-use crate::checks::both;
-use crate::moves::with_children;
-use descendants::position::Position;
-use descendants::walk::NextAnswer;
-use descendants::walk::WalkAnswer;
-use descendants::walk::descendants_of;
-use descendants::walker::next_held;
-use slots::NodeId;
-use slots::handle::word_of;
+use crate::document::MEMORY;
+use crate::document::NO_NODE;
+use crate::document::RECORD;
+use crate::document::SCRATCH;
+use crate::document::both;
+use crate::document::element;
+use crate::document::starts;
+use exports::change::oxml_set_attribute;
+use exports::walk::oxml_descendants_of;
+use exports::walk::oxml_walk_next;
 
-// The element e, (1, 0), has the children a, b and c and the attribute (5, 0); below b is the element (6, 0).
-fn with_grandchild(mem: &mut [u64; MEMORY], scratch: &mut [u64; SCRATCH]) -> After {
-    let three = with_children(mem, scratch);
-    let named = attribute(three, mem, scratch, handle(1, 0), b"", b"d");
-    element(named, mem, scratch, handle(3, 0), b"f")
+// The words of a position.
+const POSITION: usize = 7;
+
+// Whether element 1 has the children 2, 3 and 4 and the attribute 5, and 3 has the child 6: the handles of generation 0.
+fn made(
+    document: &mut [u64; RECORD],
+    memory: &mut [u64; MEMORY],
+    scratch: &mut [u64; SCRATCH],
+) -> bool {
+    let started = starts(document, memory);
+    let top = element(document, memory, scratch, 0, b"e");
+    let first = element(document, memory, scratch, 1, b"a");
+    let second = element(document, memory, scratch, 1, b"b");
+    let third = element(document, memory, scratch, 1, b"c");
+    let named = oxml_set_attribute(document, memory, scratch, 1, b"", b"d", b"v");
+    let below = element(document, memory, scratch, 3, b"f");
+    let children = both(first == 2, both(second == 3, third == 4));
+    both(
+        both(started, top == 1),
+        both(children, both(named == 0, below == 6)),
+    )
 }
 
-// At the next node, or as it was where the walk ends.
-fn moved(after: After, mem: &[u64; MEMORY], at: Position) -> Position {
-    match next_held(after.document, mem, at) {
-        NextAnswer::At(p) => p,
-        NextAnswer::End => at,
-        NextAnswer::Refused(_) => at,
+// The node that the next step lists, and 0 at the end: the Root is below no node.
+fn next(document: &[u64; RECORD], memory: &[u64; MEMORY], position: &mut [u64; POSITION]) -> u64 {
+    let mut listed = [0u64; 2];
+    if oxml_walk_next(document, memory, position, &mut listed) != 0 {
+        return NO_NODE;
     }
+    listed[1]
 }
 
-fn is_at(at: Position, id: NodeId) -> bool {
-    at.node == word_of(id)
+// Whether the walk below 1 lists 2, 3, 6 and 4, and stays at its end.
+fn lists_four(document: &[u64; RECORD], memory: &[u64; MEMORY]) -> bool {
+    let mut at = [0u64; POSITION];
+    let begun = oxml_descendants_of(document, memory, 1, &mut at);
+    let first = next(document, memory, &mut at);
+    let second = next(document, memory, &mut at);
+    let third = next(document, memory, &mut at);
+    let fourth = next(document, memory, &mut at);
+    let end = next(document, memory, &mut at);
+    let still = next(document, memory, &mut at);
+    let in_order = both(both(first == 2, second == 3), both(third == 6, fourth == 4));
+    both(both(begun == 0, in_order), both(end == 0, still == 0))
 }
 
 // Whether a walk below a node lists nothing.
-fn is_empty(after: After, mem: &[u64; MEMORY], id: NodeId) -> bool {
-    match descendants_of(after.document, mem, id) {
-        WalkAnswer::From(at) => is_at(moved(after, mem, at), id),
-        WalkAnswer::Refused(_) => false,
-    }
+fn is_empty(document: &[u64; RECORD], memory: &[u64; MEMORY], zone: u64) -> bool {
+    let mut at = [0u64; POSITION];
+    let begun = oxml_descendants_of(document, memory, zone, &mut at);
+    both(begun == 0, next(document, memory, &mut at) == 0)
 }
 
-// Whether the steps from a position list a, b, the element below b, and c, and find the end.
-fn lists_four(after: After, mem: &[u64; MEMORY], from: Position) -> bool {
-    let a = moved(after, mem, from);
-    let b = moved(after, mem, a);
-    let f = moved(after, mem, b);
-    let c = moved(after, mem, f);
-    let end = moved(after, mem, c);
-    all(
-        both(is_at(a, handle(2, 0)), is_at(b, handle(3, 0))),
-        both(is_at(f, handle(6, 0)), is_at(c, handle(4, 0))),
-        is_at(end, handle(4, 0)),
-    )
-}
-
-fn is_whole(after: After, mem: &[u64; MEMORY], id: NodeId) -> bool {
-    match descendants_of(after.document, mem, id) {
-        WalkAnswer::From(at) => lists_four(after, mem, at),
-        WalkAnswer::Refused(_) => false,
-    }
-}
-
-// Of the attribute, and of a handle that is stale, nothing is listed.
+// Of the attribute, and of the stale handle (1, 1), nothing is listed.
 pub fn listed() -> bool {
-    let mut mem = [0u64; MEMORY];
+    let mut document = [0u64; RECORD];
+    let mut memory = [0u64; MEMORY];
     let mut scratch = [0u64; SCRATCH];
-    let after = with_grandchild(&mut mem, &mut scratch);
-    all(
-        is_whole(after, &mem, handle(1, 0)),
-        is_empty(after, &mem, handle(5, 0)),
-        is_empty(after, &mem, handle(1, 1)),
-    )
+    let ready = made(&mut document, &mut memory, &mut scratch);
+    let four = lists_four(&document, &memory);
+    let none = both(
+        is_empty(&document, &memory, 5),
+        is_empty(&document, &memory, 4294967297),
+    );
+    both(ready, both(four, none))
 }

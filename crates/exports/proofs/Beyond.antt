@@ -11,19 +11,20 @@ use lib.ListN.{length}
 use lib.Dec.{eqb, leb}
 use borrow.Author.Tests.{ne-eqb, lt-leb}
 use Rattle.blocks.specs.Arena.{Block, block, listOf}
-use Rattle.slots.specs.declared.Chars.{Chars}
-use Rattle.slots.specs.declared.Chars.the-variants.{Empty, Expanded}
-use Rattle.slots.specs.Records.{charsOf}
+use Rattle.records.specs.declared.Chars.{Chars}
+use Rattle.records.specs.declared.Chars.the-variants.{Empty, Expanded}
+use Rattle.records.specs.Records.{charsOf}
 use Rattle.texts.proofs.Places.{shown-empty}
 use Rattle.names.specs.Table.{Name, name}
 use Rattle.names.specs.Words.{nameThere, nameShown}
 use Rattle.names.proofs.Words.{there-number, part-number}
 use Rattle.model.specs.Kinds.{Which, children, attributes, namespaces}
 use Rattle.model.specs.Calls.{Answered, nameIs, refused, name-of}
-use Rattle.memory.specs.declared.layout.Document.{Document}
-use Rattle.memory.specs.Layout.{limitsOf, memoryOk}
-use Rattle.memory.specs.Decode.{slotOf, usedOf, arenaUsed, arenaIn, textLimits, textCounts, textsPart, nameLimits, nameCounts, namesPart, namesIn}
-use Rattle.memory.proofs.Limits.{LimitsFit, limits-fit, entries-fit, memory-limits}
+use Rattle.layout.specs.declared.Document.{Document}
+use Rattle.layout.specs.Layout.{limitsOf, memoryOk}
+use Rattle.memory.specs.Decode.{slotOf, arenaUsed, arenaIn, textLimits, textCounts, textsPart, nameLimits, nameCounts, namesPart, namesIn}
+use Rattle.layout.specs.Record.{usedOf}
+use Rattle.layout.proofs.Sizes.{LimitsFit, limits-fit, entries-fit, memory-limits}
 use Rattle.memory.proofs.Shown.{name-shown}
 use Rattle.reading.specs.Answers.{textIn, namePart, entriesShown, textBytes, nameBytes}
 use Rattle.reading.specs.Contract.{reads}

@@ -10,19 +10,19 @@ use lib.Dec.{eqb}
 use borrow.Author.Tests.{ne-eqb}
 use Rattle.words.specs.Parts.{part, put}
 use Rattle.words.proofs.Parts.{put-nil, length-put, part-put-same}
-use Rattle.slots.specs.declared.NodeId.{NodeId}
-use Rattle.slots.specs.Handles.{wordOf, idOf}
-use Rattle.slots.proofs.Handles.{wordOf-idOf}
+use Rattle.records.specs.declared.NodeId.{NodeId}
+use Rattle.records.specs.Handles.{wordOf, idOf}
+use Rattle.records.proofs.Handles.{wordOf-idOf}
 use Rattle.model.specs.Refusals.{numberOf}
 use Rattle.model.specs.declared.Refusal.{Refusal}
 use Rattle.model.specs.Calls.{Call, Answered, refused, done, truth}
-use Rattle.memory.specs.declared.layout.Document.{Document}
+use Rattle.layout.specs.declared.Document.{Document}
 use Rattle.editing.specs.Contract.{Edits}
 use Rattle.tree.specs.Contract.{Starts}
 use Rattle.tree.specs.Answers.{ofStart, startedRecord}
 use Rattle.tree.specs.declared.start.StartAnswer.{StartAnswer}
 use Rattle.tree.specs.declared.start.StartAnswer.the-variants as startAnswer
-use Rattle.memory.specs.declared.layout.Limits.{Limits}
+use Rattle.layout.specs.declared.Limits.{Limits}
 use Rattle.editing.specs.Answers.{ofDone, afterDone, ofMade, afterMade, ofFound, afterFound, ofOrder, afterOrder}
 use Rattle.editing.specs.declared.answers.DoneAnswer.{DoneAnswer}
 use Rattle.editing.specs.declared.answers.DoneAnswer.the-variants as doneAnswer
@@ -33,12 +33,12 @@ use Rattle.editing.specs.declared.answers.FoundAnswer.the-variants as foundAnsw
 use Rattle.editing.specs.declared.answers.OrderAnswer.{OrderAnswer}
 use Rattle.editing.specs.declared.answers.OrderAnswer.the-variants as orderAnswer
 use Rattle.editing.proofs.Numbers.{never-zero}
-use Rattle.exports.specs.declared.record.Lent.{Lent}
-use Rattle.exports.specs.declared.record.Lent.the-variants.{Record, Short}
-use Rattle.exports.specs.Records.{documentOf, truthWord, wordsOf, isLent, lentRecord}
-use Rattle.exports.specs.Given.{statusOf, givenTo, startRecord, doneRecord, orderRecord, madeRecord, madeWords, foundRecord, foundWords}
+use Rattle.encoding.specs.declared.record.Lent.{Lent}
+use Rattle.encoding.specs.declared.record.Lent.the-variants.{Record, Short}
+use Rattle.encoding.specs.Records.{documentOf, truthWord, wordsOf, isLent, lentRecord}
+use Rattle.encoding.specs.Given.{statusOf, givenTo, startRecord, doneRecord, orderRecord, madeRecord, madeWords, foundRecord, foundWords}
 use Rattle.exports.specs.Contract.{told, Telling, asDone, asMade, asTruth, asOrder, Returned, Exported, ExportedStart}
-use Rattle.exports.proofs.Records.{Whole, not-lent, whole, truth-back, written-back, length-wordsOf}
+use Rattle.encoding.proofs.Records.{Whole, not-lent, whole, truth-back, written-back, length-wordsOf}
 
 -- what was put at the front stands there
 pub front : (out vs : List ℕ) → take (length vs) (put 0 vs out) ≡ vs

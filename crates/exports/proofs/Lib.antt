@@ -1,6 +1,4 @@
 -- What the proofs of several functions use.
-mod Records
-mod Given
 mod Exporting
 mod Reading
 mod Beyond

@@ -10,19 +10,19 @@ use lib.ListN.{length, take}
 use lib.Dec.{eqb}
 use borrow.Author.Tests.{ne-eqb}
 use Rattle.words.specs.Parts.{put}
-use Rattle.slots.specs.declared.NodeId.{NodeId}
-use Rattle.slots.specs.declared.Chars.{Chars}
-use Rattle.slots.specs.declared.Chars.the-variants.{Empty, Expanded}
-use Rattle.slots.specs.declared.NodeData.{NodeData}
-use Rattle.slots.specs.declared.NodeData.the-variants as given
-use Rattle.slots.specs.Handles.{wordOf, idOf}
-use Rattle.slots.specs.Records.{charsWord}
-use Rattle.slots.proofs.Handles.{wordOf-idOf}
+use Rattle.records.specs.declared.NodeId.{NodeId}
+use Rattle.records.specs.declared.Chars.{Chars}
+use Rattle.records.specs.declared.Chars.the-variants.{Empty, Expanded}
+use Rattle.records.specs.declared.NodeData.{NodeData}
+use Rattle.records.specs.declared.NodeData.the-variants as given
+use Rattle.records.specs.Handles.{wordOf, idOf}
+use Rattle.records.specs.Records.{charsWord}
+use Rattle.records.proofs.Handles.{wordOf-idOf}
 use Rattle.model.specs.Refusals.{numberOf}
 use Rattle.model.specs.declared.Refusal.{Refusal}
 use Rattle.model.specs.Kinds.{Which}
 use Rattle.model.specs.Calls.{Call, Answered, refused, truth, name-of}
-use Rattle.memory.specs.declared.layout.Document.{Document}
+use Rattle.layout.specs.declared.Document.{Document}
 use Rattle.memory.specs.Decode.{slotOf}
 use Rattle.reading.specs.Answers.{ofTruth, ofNode, ofRoot, ofList, ofKey, ofKind, ofName, namePart, textIn}
 use Rattle.reading.specs.Contract.{reads}
@@ -41,14 +41,14 @@ use Rattle.reading.specs.declared.answers.KindAnswer.the-variants as kindAnswer
 use Rattle.reading.specs.declared.answers.NameAnswer.{NameAnswer}
 use Rattle.reading.specs.declared.answers.NameAnswer.the-variants as nameAnswer
 use Rattle.editing.proofs.Numbers.{never-zero}
-use Rattle.exports.specs.declared.record.Lent.{Lent}
-use Rattle.exports.specs.declared.record.Lent.the-variants.{Short}
-use Rattle.exports.specs.Records.{documentOf, truthWord, lentRecord}
-use Rattle.exports.specs.Given.{Given, refusal, words, statusOf, givenTo, rootWords, truthWords, nodeWords, keyWords, listWords, nameWords, dataWords, kindWords}
+use Rattle.encoding.specs.declared.record.Lent.{Lent}
+use Rattle.encoding.specs.declared.record.Lent.the-variants.{Short}
+use Rattle.encoding.specs.Records.{documentOf, truthWord, lentRecord}
+use Rattle.encoding.specs.Given.{Given, refusal, words, statusOf, givenTo, rootWords, truthWords, nodeWords, keyWords, listWords, nameWords, dataWords, kindWords}
 use Rattle.exports.specs.Contract.{told, Telling, asMade, asTruth, asNode, asKey, asList, slotTold, asKind, asName, Returned, ExportedRead}
 use Rattle.names.specs.Table.{name}
 use Rattle.exports.proofs.Beyond.{own-name}
-use Rattle.exports.proofs.Records.{Whole, not-lent, truth-back}
+use Rattle.encoding.proofs.Records.{Whole, not-lent, truth-back}
 use Rattle.exports.proofs.Exporting.{front, told-refused, returned-words, returned-none}
 
 -- ---- what is given tells the answer

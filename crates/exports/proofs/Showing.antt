@@ -12,7 +12,7 @@ use borrow.Author.Tests.{le-leb, lt-leb, ne-eqb}
 use Rattle.words.specs.Parts.{part, put}
 use Rattle.words.proofs.Parts.{length-part, part-none, part-snoc, part-all, put-nil, set-put-after}
 use Rattle.blocks.specs.Arena.{Block}
-use Rattle.memory.specs.declared.layout.Document.{Document}
+use Rattle.layout.specs.declared.Document.{Document}
 use Rattle.model.specs.Kinds.{children, attributes, namespaces}
 use Rattle.reading.specs.Answers.{entriesShown}
 use Rattle.reading.specs.Contract.{NodesRead}
@@ -22,12 +22,12 @@ use Rattle.editing.proofs.Numbers.{never-zero}
 use Rattle.model.specs.Refusals.{numberOf}
 use Rattle.model.specs.Calls.{everyNode}
 use mathlib.Core.Bool.{true≢false, false≢true}
-use Rattle.exports.specs.declared.record.Lent.{Lent}
-use Rattle.exports.specs.declared.record.Lent.the-variants.{Short}
-use Rattle.exports.specs.Records.{documentOf, isLent, lentRecord}
-use Rattle.exports.specs.Given.{statusOf, givenTo, countWords}
+use Rattle.encoding.specs.declared.record.Lent.{Lent}
+use Rattle.encoding.specs.declared.record.Lent.the-variants.{Short}
+use Rattle.encoding.specs.Records.{documentOf, isLent, lentRecord}
+use Rattle.encoding.specs.Given.{statusOf, givenTo, countWords}
 use Rattle.exports.specs.Contract.{shownTo, shownFor, entriesTold, ExportedShow, ExportedNodes}
-use Rattle.exports.proofs.Records.{Whole, not-lent}
+use Rattle.encoding.proofs.Records.{Whole, not-lent}
 use Rattle.exports.proofs.Exporting.{told-refused, returned-words, returned-none}
 
 -- ---- the copy

@@ -2,56 +2,32 @@
 -- Assumes nothing.
 use mathlib.Core.Path.{_≡_, refl, sym, ap, _∙_}
 use mathlib.Core.Bool.{Bool, true, false, _&&_, true≢false, false≢true}
-use mathlib.Core.List.{List, [], _∷_}
+use mathlib.Core.List.{List}
 use Prim.Native.Nat.{ℕ, _≤_, _<_}
 use lib.ListN.{length}
-use lib.Seq.{sets}
 use lib.Dec.{leb}
 use borrow.Author.Tests.{le-leb, lt-leb}
-use Rattle.words.specs.Parts.{put}
-use Rattle.words.proofs.Parts.{put-nil}
-use Rattle.slots.specs.declared.NodeId.{NodeId}
-use Rattle.slots.specs.Handles.{wordOf, idOf}
-use Rattle.slots.proofs.Handles.{wordOf-idOf}
-use Rattle.model.specs.Refusals.{numberOf}
-use Rattle.model.specs.declared.Refusal.{Refusal}
-use Rattle.memory.specs.declared.layout.Document.{Document}
+use Rattle.records.specs.declared.NodeId.{NodeId}
+use Rattle.records.specs.Handles.{wordOf, idOf}
+use Rattle.records.proofs.Handles.{wordOf-idOf}
+use Rattle.layout.specs.declared.Document.{Document}
 use Rattle.reading.specs.declared.answers.NodesAnswer.{NodesAnswer}
-use Rattle.descendants.specs.declared.position.Position.{Position}
+use Rattle.steps.specs.declared.position.Position.{Position}
 use Rattle.descendants.specs.declared.walk.WalkAnswer.{WalkAnswer}
 use Rattle.descendants.specs.declared.walk.NextAnswer.{NextAnswer}
-use Rattle.descendants.specs.declared.walk.NextAnswer.the-variants as nextAnswer
 use Rattle.descendants.specs.Contract.{startsOf, nextOf, countBelow, writtenBelow}
-use Rattle.exports.specs.declared.record.Lent.{Lent}
-use Rattle.exports.specs.declared.record.Lent.the-variants.{Short}
-use Rattle.exports.specs.Records.{documentOf, isLent, lentRecord}
-use Rattle.exports.specs.Given.{statusOf, givenTo, countWords}
-use Rattle.exports.specs.Positions.{positionWords, positionOf, startWords, nextWords, nextPosition}
+use Rattle.encoding.specs.declared.record.Lent.{Lent}
+use Rattle.encoding.specs.declared.record.Lent.the-variants.{Short}
+use Rattle.encoding.specs.Records.{documentOf, isLent, lentRecord}
+use Rattle.encoding.specs.Given.{statusOf, givenTo, countWords}
+use Rattle.encoding.specs.Positions.{positionOf, startWords, nextWords, nextPosition}
 use Rattle.exports.specs.Walks.{ExportedWalk, nextLent, ExportedNext, ExportedBelow}
-use Rattle.exports.proofs.Records.{stored, Whole, not-lent}
-
-pub position-stored : (p : Position) (l : List ℕ) → 7 ≤ length l → sets l 0 (positionWords p) ≡ put 0 (positionWords p) l
-position-stored p l h = stored l (positionWords p) h
+use Rattle.encoding.proofs.Records.{Whole, not-lent}
+use Rattle.encoding.proofs.Walked.{GivesNext}
 
 -- a handle that went through its two halves
 same-word : (h : ℕ) (id : NodeId) → id ≡ idOf h → wordOf id ≡ h
 same-word h id e = ap wordOf e ∙ wordOf-idOf h
-
--- ---- what `next` gives to both slices
-
-abbrev GivesNext : List ℕ → List ℕ → NextAnswer → ℕ → List ℕ → List ℕ → Type 0
-GivesNext at out r status at′ out′ = (status ≡ statusOf (nextWords r)) × (at′ ≡ givenTo at (nextPosition r)) × (out′ ≡ givenTo out (nextWords r))
-
-module _ (at out : List ℕ) (r : NextAnswer) where
-  pub next-listed : (p : Position) → r ≡ nextAnswer.At p → (at′ : List ℕ) → at′ ≡ put 0 (positionWords p) at
-      → (status : ℕ) (out′ : List ℕ) → (status ≡ 0) × (out′ ≡ put 0 (1 ∷ p .node ∷ []) out) → GivesNext at out r status at′ out′
-  next-listed p e at′ f status out′ g = rw (e, f, g .0, g .1) (refl, refl, refl)
-
-  pub next-ended : r ≡ nextAnswer.End → (status : ℕ) (out′ : List ℕ) → (status ≡ 0) × (out′ ≡ put 0 (0 ∷ 0 ∷ []) out) → GivesNext at out r status at out′
-  next-ended e status out′ g = rw (e, g .0, g .1) (refl, sym (put-nil at 0 []), refl)
-
-  pub next-refused : (why : Refusal) → r ≡ nextAnswer.Refused why → (status : ℕ) → status ≡ numberOf why → GivesNext at out r status at out
-  next-refused why e status g = rw (e, g) (refl, refl, refl)
 
 -- ---- the promises
 

@@ -10,7 +10,7 @@ use lib.ListN.{length, getD, take}
 use lib.Dec.{eqb, leb}
 use Rattle.words.specs.Parts.{put}
 use Rattle.model.specs.Calls.{Call, Answered, refused, done, made, truth, node, listed, kindIs, nameIs, key, keys, everyNode, nodes, step}
-use Rattle.memory.specs.declared.layout.Document.{Document}
+use Rattle.layout.specs.declared.Document.{Document}
 use Rattle.memory.specs.Decode.{arenaIn, decode}
 use Rattle.reading.specs.Answers.{textIn, namePart, entriesShown, orderShown}
 use Rattle.reading.specs.Contract.{reads, nodesOk}
@@ -20,7 +20,7 @@ use Rattle.model.specs.Doc.{liveNodes}
 use Rattle.names.specs.Table.{name}
 use Rattle.editing.specs.Contract.{Edits}
 use Rattle.tree.specs.Contract.{Starts}
-use Rattle.exports.specs.Records.{documentOf, wordsOf, isLent}
+use Rattle.encoding.specs.Records.{documentOf, wordsOf, isLent}
 
 -- the answer that a status tells: a refusal by its number, or what was written
 abbrev pub told : ℕ → Answered → Answered

@@ -7,9 +7,9 @@ use Prim.Native.Nat.{ℕ}
 use lib.ListN.{length}
 use lib.Dec.{leb}
 use Rattle.descendants.specs.Contract.{startsOf, nextOf, countBelow, writtenBelow}
-use Rattle.exports.specs.Records.{documentOf, isLent}
-use Rattle.exports.specs.Given.{statusOf, givenTo, countWords}
-use Rattle.exports.specs.Positions.{positionOf, startWords, nextWords, nextPosition}
+use Rattle.encoding.specs.Records.{documentOf, isLent}
+use Rattle.encoding.specs.Given.{statusOf, givenTo, countWords}
+use Rattle.encoding.specs.Positions.{positionOf, startWords, nextWords, nextPosition}
 
 -- `oxml_descendants_of` was lent a slice for a position.
 pub record ExportedWalk (h : ℕ) (words mem at : List ℕ) (status : ℕ) (at′ : List ℕ) : Type 0 where

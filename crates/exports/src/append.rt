@@ -1,10 +1,10 @@
 // The calls that append a child.
 ghost use Rattle.model.specs.Calls.{append-element, append-text, append-comment, append-pi};
 ghost use Rattle.exports.specs.Contract.{Exported, asMade};
-use crate::answer::give_made;
-use crate::record::Lent;
-use crate::record::lent_record;
-use slots::handle::id_of;
+use encoding::answer::give_made;
+use encoding::record::Lent;
+use encoding::record::lent_record;
+use records::handle::id_of;
 
 // An element behind the parent's children. Rules out a handle that a refused call writes.
 #[no_mangle]

@@ -2,11 +2,11 @@
 ghost use mathlib.Core.List.{[]};
 ghost use Rattle.model.specs.Calls.{set-text, set-attribute, declare-namespace};
 ghost use Rattle.exports.specs.Contract.{Exported, asDone, asMade};
-use crate::answer::give_done;
-use crate::answer::give_made;
-use crate::record::Lent;
-use crate::record::lent_record;
-use slots::handle::id_of;
+use encoding::answer::give_done;
+use encoding::answer::give_made;
+use encoding::record::Lent;
+use encoding::record::lent_record;
+use records::handle::id_of;
 
 // The text of a text node. Rules out another node's text.
 #[no_mangle]

@@ -4,13 +4,13 @@ ghost use Rattle.model.specs.Calls.{name-of};
 ghost use Rattle.reading.specs.Answers.{ofName};
 ghost use Rattle.reading.specs.Contract.{reads};
 ghost use Rattle.exports.specs.Contract.{ExportedRead, ExportedNodes, asName};
-use crate::numbers::give_count;
-use crate::numbers::give_name;
-use crate::record::Lent;
-use crate::record::lent_record;
-use memory::layout::Document;
+use encoding::numbers::give_count;
+use encoding::numbers::give_name;
+use encoding::record::Lent;
+use encoding::record::lent_record;
+use layout::Document;
 use reading::answers::NameAnswer;
-use slots::NameId;
+use words::NameId;
 
 // No number above 32 bits has a name, and the greatest below has none.
 fn read_name(d: Document, memory: &[u64], number: u64) -> NameAnswer

@@ -2,10 +2,10 @@
 ghost use mathlib.Core.List.{[]};
 ghost use Rattle.model.specs.Calls.{reparent, insert-at};
 ghost use Rattle.exports.specs.Contract.{Exported, asDone};
-use crate::answer::give_done;
-use crate::record::Lent;
-use crate::record::lent_record;
-use slots::handle::id_of;
+use encoding::answer::give_done;
+use encoding::record::Lent;
+use encoding::record::lent_record;
+use records::handle::id_of;
 
 // A node goes behind another's children. Rules out child and parent swapped.
 #[no_mangle]

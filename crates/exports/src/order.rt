@@ -2,10 +2,10 @@
 ghost use mathlib.Core.List.{[]};
 ghost use Rattle.model.specs.Calls.{document-order, compact};
 ghost use Rattle.exports.specs.Contract.{Exported, asDone, asOrder};
-use crate::answer::give_done;
-use crate::answer::give_order;
-use crate::record::Lent;
-use crate::record::lent_record;
+use encoding::answer::give_done;
+use encoding::answer::give_order;
+use encoding::record::Lent;
+use encoding::record::lent_record;
 
 // The order is made current; `oxml_order_words` shows it. Rules out words of an order that is not.
 #[no_mangle]

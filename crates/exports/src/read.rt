@@ -2,15 +2,15 @@
 ghost use Rattle.model.specs.Kinds.{children, attributes, namespaces};
 ghost use Rattle.model.specs.Calls.{root-of, parent-of, root-element, is-element, order-key, children-of, attribute-nodes, namespace-nodes, kind-of};
 ghost use Rattle.exports.specs.Contract.{ExportedRead, asMade, asTruth, asNode, asKey, asList, asKind};
-use crate::numbers::give_key;
-use crate::numbers::give_kind;
-use crate::numbers::give_list;
-use crate::numbers::give_node;
-use crate::numbers::give_root;
-use crate::numbers::give_truth;
-use crate::record::Lent;
-use crate::record::lent_record;
-use slots::handle::id_of;
+use encoding::numbers::give_key;
+use encoding::numbers::give_kind;
+use encoding::numbers::give_list;
+use encoding::numbers::give_node;
+use encoding::numbers::give_root;
+use encoding::numbers::give_truth;
+use encoding::record::Lent;
+use encoding::record::lent_record;
+use records::handle::id_of;
 
 // The Root's handle, in one word. Rules out another.
 #[no_mangle]

@@ -2,11 +2,11 @@
 ghost use mathlib.Core.List.{[]};
 ghost use Rattle.model.specs.Calls.{remove-attribute, remove, detach};
 ghost use Rattle.exports.specs.Contract.{Exported, asDone, asTruth};
-use crate::answer::give_done;
-use crate::answer::give_found;
-use crate::record::Lent;
-use crate::record::lent_record;
-use slots::handle::id_of;
+use encoding::answer::give_done;
+use encoding::answer::give_found;
+use encoding::record::Lent;
+use encoding::record::lent_record;
+use records::handle::id_of;
 
 // An attribute of an element goes, where there is one. Rules out 1 where there was none.
 #[no_mangle]

@@ -4,17 +4,17 @@ ghost use Prim.Native.Nat.{_≤_};
 ghost use lib.ListN.{length};
 ghost use Rattle.words.specs.Parts.{put};
 ghost use Rattle.blocks.specs.Arena.{block};
-ghost use Rattle.memory.specs.Layout.{whichOf};
+ghost use Rattle.layout.specs.Layout.{whichOf};
 ghost use Rattle.reading.specs.Answers.{entriesShown, textBytes, nameBytes, orderShown};
-ghost use Rattle.exports.specs.Records.{documentOf};
+ghost use Rattle.encoding.specs.Records.{documentOf};
 ghost use Rattle.exports.specs.Contract.{slotTold, shownTo, entriesTold, ExportedShow};
-use crate::record::Lent;
-use crate::record::lent_record;
-use memory::layout::Arena;
-use memory::layout::Document;
-use slots::NameId;
-use slots::Range;
-use slots::decode::chars_of;
+use encoding::record::Lent;
+use encoding::record::lent_record;
+use layout::Arena;
+use layout::Document;
+use records::Range;
+use records::decode::chars_of;
+use words::NameId;
 
 fn copy_words(words: &[u64], out: &mut [u64])
     requires { ⌜ length (now words) ≤ length (now out) ⌝ }

@@ -1,8 +1,8 @@
 // The start of a document.
 ghost use Rattle.exports.specs.Contract.{ExportedStart};
-use crate::answer::give_start;
-use crate::record::Lent;
-use crate::record::lent_record;
+use encoding::answer::give_start;
+use encoding::record::Lent;
+use encoding::record::lent_record;
 
 // The limits are the record's first 8 words. Rules out counts that the record had before.
 #[no_mangle]

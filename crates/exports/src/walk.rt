@@ -1,12 +1,12 @@
 // The nodes below a node, in document order, itself and all attributes and namespaces left out.
 ghost use Rattle.exports.specs.Walks.{ExportedWalk, ExportedNext, ExportedBelow};
-use crate::numbers::give_count;
-use crate::positions::give_next;
-use crate::positions::give_start;
-use crate::positions::position_of;
-use crate::record::Lent;
-use crate::record::lent_record;
-use slots::handle::id_of;
+use encoding::numbers::give_count;
+use encoding::positions::give_next;
+use encoding::positions::give_start;
+use encoding::positions::position_of;
+use encoding::record::Lent;
+use encoding::record::lent_record;
+use records::handle::id_of;
 
 // A walk below the zone begins: seven words go to position. Rules out a refusal of a handle that is stale.
 #[no_mangle]

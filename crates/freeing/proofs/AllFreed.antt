@@ -10,11 +10,11 @@ use native.Mathlib.Decide.{decLt}
 use lib.ListN.{length, getD, set, length-append, List·getD-eq-default}
 use Rattle.words.specs.Lists.{joined}
 use Rattle.words.proofs.Joined.{joined-append}
-use Rattle.slots.specs.Handles.{handleIndex}
+use Rattle.records.specs.Handles.{handleIndex}
 use Rattle.model.specs.Kinds.{textsOf}
-use Rattle.model.specs.Doc.{Doc, kindAt}
+use Rattle.model.specs.Doc.{Doc, changeSlots, changeCurrent, changePool, kindAt}
 use Rattle.model.specs.Edits.{up, raisedAll, freedAll, freeAll}
-use Rattle.model.proofs.Freeing.{length-raisedAll, raisedAll-fits}
+use Rattle.laws.proofs.Freeing.{length-raisedAll, raisedAll-fits}
 use Rattle.edits.specs.Pooled.{setPool}
 use Rattle.freeing.specs.Freed.{pushedAll, freeSlot, freeNode, freeAllSlots}
 use Rattle.freeing.specs.Asked.{Releasable, NodeFreeable}
@@ -47,42 +47,17 @@ module _ (D : Doc) where
   -- none freed, and one more
   pub freeAll-none : D .current ≡ false → D ≡ freeAllSlots D []
   unfolding freeAll setPool
-  freeAll-none e = λ i. record {
-    limits = D .limits;
-    gens = D .gens;
-    free = D .free;
-    kinds = D .kinds;
-    parents = D .parents;
-    ranges = D .ranges;
-    arenas = D .arenas;
-    order = D .order;
-    current = e i;
-    pool = D .pool;
-    names = D .names;
-    countsFit = D .countsFit;
-    lengthsFit = D .lengthsFit;
-  }
+  freeAll-none e = ap (changeCurrent D) e
 
   pub freeAll-next : (l : List ℕ) (h : ℕ) → freeNode (freeAllSlots D l) (handleIndex h) ≡ freeAllSlots D (l ++ (h ∷ []))
   unfolding freeAll freeSlot setPool
   freeAll-next l h =
       let texts : textsOfAll (l ++ (h ∷ [])) ≡ textsOfAll l ++ textsOf (kindAt D h) =
       joined-append (λ x. textsOf (kindAt D x)) l (h ∷ []) ∙ ap (λ (x : List (Option ℕ)). textsOfAll l ++ x) (append-nil (textsOf (kindAt D h))) in
-      λ i. record {
-        limits = D .limits;
-        gens = sym (raisedAll-append l (h ∷ []) (D .gens)) i;
-        free = sym (freedAll-append l (h ∷ []) (D .free)) i;
-        kinds = D .kinds;
-        parents = D .parents;
-        ranges = D .ranges;
-        arenas = D .arenas;
-        order = D .order;
-        current = false;
-        pool = sym (ap (pushedAll (D .pool)) texts ∙ pushedAll-append (textsOfAll l) (textsOf (kindAt D h)) (D .pool)) i;
-        names = D .names;
-        countsFit = D .countsFit;
-        lengthsFit = D .lengthsFit;
-      }
+      let gens = sym (raisedAll-append l (h ∷ []) (D .gens)) in
+      let free = sym (freedAll-append l (h ∷ []) (D .free)) in
+      let pool = sym (ap (pushedAll (D .pool)) texts ∙ pushedAll-append (textsOfAll l) (textsOf (kindAt D h)) (D .pool)) in
+      λ i. changePool (changeCurrent (changeSlots D (gens i) (free i)) false) (pool i)
 
   -- the next of them
   module _ (l : List ℕ) (h : ℕ) (f : AllFreeable (l ++ (h ∷ []))) where

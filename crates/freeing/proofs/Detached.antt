@@ -16,13 +16,13 @@ use Rattle.blocks.specs.Arena.{Arena, Block, block, listOf, removed}
 use Rattle.blocks.specs.Rule.{Inside, at}
 use Rattle.blocks.proofs.Apart.{at-same, at-other}
 use Rattle.blocks.proofs.Removal.{remove-promise}
-use Rattle.slots.specs.Handles.{handleIndex}
-use Rattle.slots.proofs.Handles.{handleIndex-wordOf}
+use Rattle.records.specs.Handles.{handleIndex}
+use Rattle.records.proofs.Handles.{handleIndex-wordOf}
 use Rattle.model.specs.Kinds.{Which, sameWhich, whichOf}
-use Rattle.model.specs.Doc.{Doc, generationAt, handleAt, liveSlot, resolves, kindIn, kindAt, parentIn, parentAt, rangeIn, listIn, listAt}
+use Rattle.model.specs.Doc.{Doc, changeNodes, changeArenas, changeCurrent, generationAt, handleAt, liveSlot, resolves, kindIn, kindAt, parentIn, parentAt, rangeIn, listIn, listAt}
 use Rattle.model.specs.Rules.{Shape, Rules, Entries, blockIn}
 use Rattle.model.specs.Edits.{setBlock, setParent, unlinkFrom, unlink, unhook}
-use Rattle.model.proofs.Basics.{mem-count, count-mem, live-below}
+use Rattle.laws.proofs.Basics.{mem-count, count-mem, live-below}
 use Rattle.walks.proofs.Walkable.{live-of, handle-of, same-index}
 use Rattle.memory.proofs.Written.{sameWhich-true, sameWhich-refl}
 use Rattle.edits.proofs.Unhooked.{unlinked-inside}
@@ -31,21 +31,9 @@ use Rattle.freeing.specs.Asked.{Freeable, SubtreeFreeable}
 module _ (D : Doc) (R : Rules D) (shape : Shape D) (narrow : length (D .gens) ≤ 4294967296) (h : ℕ) (lh : resolves D h ≡ true) where
   -- with other lists, and h without a parent
   abbrev off : (Which → List Block) → (Which → Arena) → Doc
-  off ranges arenas = record {
-    limits = D .limits;
-    gens = D .gens;
-    free = D .free;
-    kinds = D .kinds;
-    parents = set (D .parents) (handleIndex h) none;
-    ranges = ranges;
-    arenas = arenas;
-    order = D .order;
-    current = false;
-    pool = D .pool;
-    names = D .names;
-    countsFit = D .countsFit;
-    lengthsFit = D .lengthsFit;
-  }
+  off ranges arenas =
+      let nodes = changeNodes D (D .kinds) (set (D .parents) (handleIndex h) none) ranges in
+      changeCurrent (changeArenas nodes arenas) false
 
   -- h is in no list any more, and every other handle is where it was
   record Off (ranges : Which → List Block) (arenas : Which → Arena) : Type 0 where

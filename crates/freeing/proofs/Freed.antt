@@ -2,38 +2,35 @@
 -- Assumes nothing.
 use mathlib.Core.Path.{_≡_, refl, sym, ap, subst, _∙_}
 use mathlib.Core.Bool.{true, false}
-use mathlib.Core.List.{List, _∷_, _++_, reverse}
-use Prim.Native.Nat.{ℕ, suc, _+_, _-_, _*_, _≤_, _<_, min}
+use mathlib.Core.List.{List, _∷_, reverse}
+use Prim.Native.Nat.{ℕ, suc, _+_, _*_, _≤_, _<_, min}
 use native.Mathlib.Omega.{arith}
 use native.Mathlib.Nat.{min-eq-left}
 use native.Mathlib.Decide.{ℕ-discrete}
-use lib.ListN.{length, set, take, drop, length-reverse}
+use lib.ListN.{length, set, length-reverse}
 use borrow.Author.Tests.{lt-ltb}
-use Rattle.words.specs.Parts.{put}
 use Rattle.words.specs.Lists.{tabulate}
-use Rattle.words.proofs.Parts.{put-back}
 use Rattle.words.proofs.Lists.{length-tabulate, getD-tabulate, tabulate-same, tabulate-set}
 use Rattle.blocks.specs.Arena.{arenaOf}
 use Rattle.slots.specs.Regions.{slotsWords, generationAt, freeAt, nodeAt, orderAt, putGeneration, putFree}
 use Rattle.slots.specs.Slots.{freedWords}
-use Rattle.slots.specs.declared.Loaded.{Loaded}
+use Rattle.records.specs.declared.Loaded.{Loaded}
 use Rattle.slots.proofs.Regions.{length-putGeneration, length-putFree, generationAt-putGeneration, generationAt-putGeneration-other, freeAt-putGeneration, recordAt-putGeneration, orderAt-putGeneration, freeAt-putFree, freeAt-putFree-other, generationAt-putFree, recordAt-putFree, orderAt-putFree, nodeAt-recordAt}
 use Rattle.model.specs.Kinds.{Which, children, attributes, namespaces, textsOf}
-use Rattle.model.specs.Doc.{Doc, kindIn}
+use Rattle.model.specs.Doc.{Doc, changeSlots, changeNodes, changeArenas, changeOrder, changeFits, kindIn}
 use Rattle.model.specs.Edits.{up}
-use Rattle.memory.specs.declared.layout.Document.{Document}
-use Rattle.memory.specs.Layout.{limitsOf, entriesOf, memoryOk}
-use Rattle.memory.specs.Decode.{kindLoaded, parentLoaded, rangeLoaded, loadedAt, usedOf, countsWithin, slotsPart, arenaPart, slotsMade, slotsFree, poolIn, namesIn, lengthsAdd, decodeWith, decode}
+use Rattle.layout.specs.declared.Document.{Document}
+use Rattle.layout.specs.Layout.{limitsOf, entriesOf, memoryOk}
+use Rattle.memory.specs.Decode.{kindLoaded, parentLoaded, rangeLoaded, loadedAt, countsWithin, slotsPart, arenaPart, slotsMade, slotsFree, poolIn, namesIn, lengthsAdd, decodeWith, decode}
+use Rattle.layout.specs.Record.{usedOf, slotCounts, withSlots}
 use Rattle.memory.specs.Writing.{putSlots}
 use Rattle.memory.specs.Step.{Step}
 use Rattle.memory.proofs.Columns.{length-gens, generation-in}
 use Rattle.memory.proofs.Counted.{counts-fit, fit-counts}
 use Rattle.memory.proofs.Kept.{decode-kept, putSlots-texts}
-use Rattle.memory.proofs.Reading.{slots-lent}
 use Rattle.memory.proofs.Shaped.{length-slotsPart}
 use Rattle.memory.proofs.Written.{length-putSlots, decode-putSlots}
 use Rattle.edits.specs.Pooled.{setPool}
-use Rattle.edits.specs.Slot.{slotCounts, withSlots}
 use Rattle.edits.proofs.Composed.{step-next}
 use Rattle.memory.proofs.Past.{slots-past}
 use Rattle.edits.proofs.Taking.{reverse-next}
@@ -154,43 +151,32 @@ module _ (d : Document) (mem : List ℕ) (ok : memoryOk d (length mem) ≡ true)
       let ef : min (F + 1) N ≡ suc F = min-eq-left (omega (arith, fb)) ∙ omega arith in
       let eo : min F N ≡ F = min-eq-left (omega (arith, fb)) in
       decode-putSlots d mem U ok size-u (poolIn d mem) (namesIn d mem) (lengthsAdd d mem) (slotCounts (d .counts) (d .counts .slots) (F + 1)) false
-      ∙ (λ i. record {
-        limits = limitsOf (d .limits);
-        gens = (tabulate-set (generationAt N U) (generationAt N W) (slotsMade d) s (up (generationAt N W s)) slot-made
-            (λ t k ne. generation-other N W long-w F s fb sb gb t (omega arith) ne) (generation-here N W long-w F s fb sb gb)
-            ∙ ap (λ (x : ℕ). set (D .gens) s (up x)) (sym (generation-in (poolIn d mem) (namesIn d mem) (lengthsAdd d mem) d mem s slot-made))) i;
-        free = (ap (λ (k : ℕ). reverse (tabulate (freeAt N U) k)) ef
-            ∙ reverse-next (freeAt N U) F
-            ∙ ap (λ (x : ℕ). x ∷ reverse (tabulate (freeAt N U) F)) (free-here N W long-w F s fb sb gb)
-            ∙ ap (λ (l : List ℕ). s ∷ reverse l) (tabulate-same (freeAt N U) (freeAt N W) F (λ t k. free-other N W long-w F s fb sb gb t (λ x. omega arith)))
-            ∙ ap (λ (k : ℕ). s ∷ reverse (tabulate (freeAt N W) k)) (sym eo)) i;
-        kinds = column-same kindLoaded i;
-        parents = column-same parentLoaded i;
-        ranges = λ a. column-same (rangeLoaded a) i;
-        arenas = λ a. arenaOf (entriesOf (d .limits) a) (min (used-same a i) (entriesOf (d .limits) a)) (arenaPart d a mem);
-        order = tabulate-same (orderAt N U) (orderAt N W) N (λ t k. order-same N W long-w F s fb sb gb t) i;
-        current = false;
-        pool = poolIn d mem;
-        names = namesIn d mem;
-        countsFit = counts-freed i;
-        lengthsFit = lengthsAdd d mem;
-      })
+      ∙ (λ i.
+      let slots =
+      changeSlots D
+      ((tabulate-set (generationAt N U) (generationAt N W) (slotsMade d) s (up (generationAt N W s)) slot-made
+      (λ t k ne. generation-other N W long-w F s fb sb gb t (omega arith) ne) (generation-here N W long-w F s fb sb gb)
+      ∙ ap (λ (x : ℕ). set (D .gens) s (up x)) (sym (generation-in (poolIn d mem) (namesIn d mem) (lengthsAdd d mem) d mem s slot-made))) i)
+      ((ap (λ (k : ℕ). reverse (tabulate (freeAt N U) k)) ef
+      ∙ reverse-next (freeAt N U) F
+      ∙ ap (λ (x : ℕ). x ∷ reverse (tabulate (freeAt N U) F)) (free-here N W long-w F s fb sb gb)
+      ∙ ap (λ (l : List ℕ). s ∷ reverse l) (tabulate-same (freeAt N U) (freeAt N W) F (λ t k. free-other N W long-w F s fb sb gb t (λ x. omega arith)))
+      ∙ ap (λ (k : ℕ). s ∷ reverse (tabulate (freeAt N W) k)) (sym eo)) i) in
+      let nodes = changeNodes slots (column-same kindLoaded i) (column-same parentLoaded i) (λ a. column-same (rangeLoaded a) i) in
+      let lists = changeArenas nodes (λ a. arenaOf (entriesOf (d .limits) a) (min (used-same a i) (entriesOf (d .limits) a)) (arenaPart d a mem)) in
+      let order = tabulate-same (orderAt N U) (orderAt N W) N (λ t k. order-same N W long-w F s fb sb gb t) i in
+      changeFits (changeOrder lists order false) (counts-freed i) (D .lengthsFit))
 
-  -- ---- the part of the slots, lent and returned
+  -- ---- the slot freed
 
-  pub slot-freeable : (slotsWords (d .limits .nodes) ≤ length (take (15 * d .limits .nodes - 0) (drop 0 mem))) × (s < d .limits .nodes) × (d .counts .free < d .limits .nodes)
-      × (generationAt (d .limits .nodes) (take (15 * d .limits .nodes - 0) (drop 0 mem)) s < 4294967296)
-  slot-freeable =
-      subst (λ (x : List ℕ). (slotsWords N ≤ length x) × (s < N) × (F < N) × (generationAt N x s < 4294967296)) (sym (slots-lent d mem)) (long-w, sb, fb, gb)
+  pub slot-freeable : (memoryOk d (length mem) ≡ true) × (s < d .limits .nodes) × (d .counts .free < d .limits .nodes) × (generationAt (d .limits .nodes) (slotsPart d mem) s < 4294967296)
+  slot-freeable = (ok, sb, fb, gb)
 
-  pub slot-freed : (ys : List ℕ) → ys ≡ freedWords (d .limits .nodes) (take (15 * d .limits .nodes - 0) (drop 0 mem)) (d .counts .free) s
+  pub slot-freed : (mem′ : List ℕ) → mem′ ≡ putSlots (freedWords (d .limits .nodes) (slotsPart d mem) (d .counts .free) s) mem
       → (free : ℕ) → free ≡ d .counts .free + 1 → (r : Document) → r ≡ withSlots d (d .counts .slots) free
-      → Step d mem r (ys ++ drop (15 * d .limits .nodes - 0) (drop 0 mem)) (freeSlot (decode d mem) s)
-  unfolding putSlots lengthsAdd
-  slot-freed ys e free ef r er =
-      let q : ys ≡ U = e ∙ ap (λ (x : List ℕ). freedWords N x F s) (slots-lent d mem) in
-      let size : length ys ≡ 15 * N - 0 = ap length q ∙ size-u ∙ omega arith in
-      let words : ys ++ drop (15 * N - 0) (drop 0 mem) ≡ putSlots U mem = put-back mem 0 ys (15 * N - 0) size ∙ ap (λ (x : List ℕ). put 0 x mem) q in
+      → Step d mem r mem′ (freeSlot (decode d mem) s)
+  unfolding lengthsAdd
+  slot-freed mem′ e free ef r er =
       let k = putSlots-texts d mem U size-u in
       let after = withSlots d (d .counts .slots) (F + 1) in
       let stepped : Step d mem after (putSlots U mem) (freeSlot (decode d mem) s) =
@@ -200,8 +186,8 @@ module _ (d : Document) (mem : List ℕ) (ok : memoryOk d (length mem) ≡ true)
         size = length-putSlots d mem U ok size-u;
         past = slots-past d mem ok U size-u;
       } in
-      subst (λ (x : Document). Step d mem x (ys ++ drop (15 * N - 0) (drop 0 mem)) (freeSlot (decode d mem) s)) (sym (er ∙ ap (withSlots d (d .counts .slots)) ef))
-      (subst (λ (x : List ℕ). Step d mem after x (freeSlot (decode d mem) s)) (sym words) stepped)
+      subst (λ (x : Document). Step d mem x mem′ (freeSlot (decode d mem) s)) (sym (er ∙ ap (withSlots d (d .counts .slots)) ef))
+      (subst (λ (x : List ℕ). Step d mem after x (freeSlot (decode d mem) s)) (sym e) stepped)
 
 -- ---- a node: its text slots, then its slot
 

@@ -10,21 +10,21 @@ use lib.Dec.{eqb}
 use Rattle.words.specs.Lists.{countOf}
 use Rattle.texts.specs.Pool.{Pool, pushed, reclaimed}
 use Rattle.texts.specs.Words as lower
-use Rattle.texts.proofs.Released.{reclaimed-pushed}
-use Rattle.slots.specs.declared.Chars.{Chars}
-use Rattle.slots.specs.declared.Chars.the-variants.{Empty, Expanded}
-use Rattle.slots.specs.declared.TextSlot.{TextSlot}
-use Rattle.slots.specs.declared.Node.{Node}
-use Rattle.slots.specs.declared.Loaded.{Loaded}
-use Rattle.slots.specs.declared.Loaded.the-variants.{Found, NoNode}
-use Rattle.slots.specs.declared.NodeData.{NodeData}
-use Rattle.slots.specs.declared.NodeData.the-variants as given
+use Rattle.releasing.proofs.Released.{reclaimed-pushed}
+use Rattle.records.specs.declared.Chars.{Chars}
+use Rattle.records.specs.declared.Chars.the-variants.{Empty, Expanded}
+use Rattle.words.specs.declared.TextSlot.{TextSlot}
+use Rattle.records.specs.declared.Node.{Node}
+use Rattle.records.specs.declared.Loaded.{Loaded}
+use Rattle.records.specs.declared.Loaded.the-variants.{Found, NoNode}
+use Rattle.records.specs.declared.NodeData.{NodeData}
+use Rattle.records.specs.declared.NodeData.the-variants as given
 use Rattle.model.specs.Kinds.{Kind, root, textsOf}
 use Rattle.model.specs.Doc.{Doc, orElse, kindIn}
 use Rattle.model.specs.Rules.{slotsHeld}
 use Rattle.model.specs.Edits.{releasedAll}
-use Rattle.model.proofs.Freeing.{slotsHeld-append}
-use Rattle.memory.specs.declared.layout.Document.{Document}
+use Rattle.laws.proofs.Freeing.{slotsHeld-append}
+use Rattle.layout.specs.declared.Document.{Document}
 use Rattle.memory.specs.Decode.{slotOf, kindOf, kindLoaded, loadedAt, slotsPart, slotsMade, poolIn, namesIn, lengthsAdd, decode}
 use Rattle.memory.specs.Step.{Step}
 use Rattle.memory.proofs.Columns.{kind-column, kind-found}

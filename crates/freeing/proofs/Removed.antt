@@ -14,13 +14,13 @@ use Rattle.model.specs.Doc.{Doc, resolves}
 use Rattle.model.specs.Rules.{Rules}
 use Rattle.model.specs.Edits.{unhook, subtree, freeAll}
 use Rattle.model.specs.Calls.{removed}
-use Rattle.memory.specs.declared.layout.Limits.{Limits}
-use Rattle.memory.specs.declared.layout.Document.{Document}
-use Rattle.memory.specs.Layout.{limitsOf, scratchWords, memoryOk, buffersOk}
+use Rattle.layout.specs.declared.Limits.{Limits}
+use Rattle.layout.specs.declared.Document.{Document}
+use Rattle.layout.specs.Layout.{limitsOf, scratchWords, memoryOk, buffersOk}
 use Rattle.memory.specs.Decode.{poolIn, namesIn, lengthsAdd, decode}
 use Rattle.memory.specs.Step.{Step}
 use Rattle.memory.proofs.Columns.{length-gens}
-use Rattle.memory.proofs.Limits.{sizes}
+use Rattle.layout.proofs.Sizes.{sizes}
 use Rattle.memory.proofs.Shaped.{shape}
 use Rattle.edits.specs.Asked.{Hooked}
 use Rattle.edits.specs.Pooled.{setPool}

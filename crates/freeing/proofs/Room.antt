@@ -13,20 +13,20 @@ use borrow.Author.Tests.{eqb-true}
 use Rattle.words.specs.Lists.{countOf, without, joined, tabulate}
 use Rattle.words.proofs.Lists.{countOf-append}
 use Rattle.words.proofs.Joined.{joined-append}
-use Rattle.slots.specs.Handles.{handleIndex}
+use Rattle.records.specs.Handles.{handleIndex}
 use Rattle.model.specs.Kinds.{textsOf}
 use Rattle.model.specs.Doc.{Doc, generationAt, liveSlot, resolves, kindAt}
 use Rattle.model.specs.Rules.{slotsHeld, heldIn, held}
-use Rattle.model.proofs.Wf.{Distinct}
-use Rattle.model.proofs.Basics.{mem-count, live-even, live-below}
-use Rattle.model.proofs.Counting.{mem-index, getD-below}
-use Rattle.model.proofs.Freeing.{slotsHeld-append}
-use Rattle.model.proofs.Membership.{mem-without-old, distinct-without, distinct-append, distinct-map, mem-map-cases, pigeonhole}
+use Rattle.laws.proofs.Wf.{Distinct}
+use Rattle.laws.proofs.Basics.{mem-count, live-even, live-below}
+use Rattle.laws.proofs.Counting.{mem-index, getD-below}
+use Rattle.laws.proofs.Freeing.{slotsHeld-append}
+use Rattle.laws.proofs.Membership.{mem-without-old, distinct-without, distinct-append, distinct-map, mem-map-cases, pigeonhole}
 use Rattle.walks.proofs.Distinct.{count-distinct}
 use Rattle.walks.proofs.Walkable.{live-of, same-index}
 use Rattle.texts.specs.Pool.{Pool, reclaimed}
 use Rattle.texts.specs.Rule.{FreeTexts}
-use Rattle.texts.proofs.Released.{reclaimed-none}
+use Rattle.releasing.proofs.Released.{reclaimed-none}
 use Rattle.model.specs.Edits.{releasedAll, freeAll}
 use Rattle.edits.specs.Pooled.{setPool}
 use Rattle.freeing.specs.Freed.{freeAllSlots}

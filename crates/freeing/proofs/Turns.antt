@@ -15,23 +15,23 @@ use Rattle.words.proofs.Lists.{countOf-append}
 use Rattle.words.proofs.Parts.{length-put}
 use Rattle.blocks.specs.Arena.{Block}
 use Rattle.blocks.proofs.Capacities.{capacity-least}
-use Rattle.slots.specs.Handles.{handleIndex}
+use Rattle.records.specs.Handles.{handleIndex}
 use Rattle.model.specs.Kinds.{Which, children, attributes, namespaces}
 use Rattle.model.specs.Doc.{Doc, even, isSome, liveSlot, resolves, parentAt, rangeIn, listIn}
 use Rattle.model.specs.Edits.{walk, pushedBy, subtree, freeAll}
-use Rattle.model.proofs.Basics.{mem-count}
-use Rattle.model.proofs.Freeing.{slotsOf, raisedAll-other}
-use Rattle.memory.specs.declared.layout.Limits.{Limits}
-use Rattle.memory.specs.declared.layout.Document.{Document}
-use Rattle.memory.specs.Layout.{limitsOf, memoryOk}
+use Rattle.laws.proofs.Basics.{mem-count}
+use Rattle.laws.proofs.Freeing.{slotsOf, raisedAll-other}
+use Rattle.layout.specs.declared.Limits.{Limits}
+use Rattle.layout.specs.declared.Document.{Document}
+use Rattle.layout.specs.Layout.{limitsOf, memoryOk}
 use Rattle.memory.specs.Decode.{slotsMade, poolIn, namesIn, lengthsAdd, decode}
 use Rattle.memory.specs.Step.{Step}
 use Rattle.memory.proofs.Columns.{length-gens}
-use Rattle.memory.proofs.Limits.{sizes, limits-fit, memory-limits}
+use Rattle.layout.proofs.Sizes.{sizes, limits-fit, memory-limits}
 use Rattle.edits.specs.Pooled.{setPool}
 use Rattle.edits.proofs.Composed.{step-none, step-as, step-memory, step-next}
 use Rattle.walks.specs.Order.{pushedIn, ListHeld}
-use Rattle.model.proofs.Membership.{distinct-map, mem-map-cases, pigeonhole}
+use Rattle.laws.proofs.Membership.{distinct-map, mem-map-cases, pigeonhole}
 use Rattle.walks.proofs.Distinct.{count-distinct}
 use Rattle.walks.proofs.Pushing.{stack-lists}
 use Rattle.walks.proofs.Renewing.{stackOf, stack-top}

@@ -12,8 +12,8 @@ use lib.Dec.{eqb}
 use borrow.Author.Tests.{eq-eqb, ne-eqb}
 use Rattle.words.specs.Lists.{countOf}
 use Rattle.words.proofs.Lists.{countOf-append}
-use Rattle.model.proofs.Basics.{count-mem}
-use Rattle.model.proofs.Counting.{count-once}
+use Rattle.laws.proofs.Basics.{count-mem}
+use Rattle.laws.proofs.Counting.{count-once}
 use Rattle.walks.proofs.Visits.{Nest}
 
 one-most : (t : Bool) → cond {A = ℕ} t 1 0 ≤ 1

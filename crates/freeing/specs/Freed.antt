@@ -6,11 +6,11 @@ use Prim.Native.Nat.{ℕ}
 use lib.ListN.{set}
 use Rattle.words.specs.Lists.{joined}
 use Rattle.texts.specs.Pool.{Pool, pushed}
-use Rattle.slots.specs.declared.Chars.the-variants.{Empty}
-use Rattle.slots.specs.declared.NodeData.{NodeData}
-use Rattle.slots.specs.declared.NodeData.the-variants as given
+use Rattle.records.specs.declared.Chars.the-variants.{Empty}
+use Rattle.records.specs.declared.NodeData.{NodeData}
+use Rattle.records.specs.declared.NodeData.the-variants as given
 use Rattle.model.specs.Kinds.{textsOf}
-use Rattle.model.specs.Doc.{Doc, generationAt, kindIn, kindAt}
+use Rattle.model.specs.Doc.{Doc, changeSlots, changeCurrent, generationAt, kindIn, kindAt}
 use Rattle.model.specs.Edits.{up, freeAll}
 use Rattle.edits.specs.Pooled.{setPool}
 use Rattle.freeing.specs.declared.release.HeldTexts.{HeldTexts}
@@ -27,21 +27,7 @@ textsIn (given.ProcessingInstruction t c) = record { first = t; second = c }
 
 -- the slot goes on the free list, its generation up by one; the order stops being current
 unfoldable pub freeSlot : Doc → ℕ → Doc
-freeSlot d s = record {
-  limits = d .limits;
-  gens = set (d .gens) s (up (generationAt d s));
-  free = s ∷ d .free;
-  kinds = d .kinds;
-  parents = d .parents;
-  ranges = d .ranges;
-  arenas = d .arenas;
-  order = d .order;
-  current = false;
-  pool = d .pool;
-  names = d .names;
-  countsFit = d .countsFit;
-  lengthsFit = d .lengthsFit;
-}
+freeSlot d s = changeCurrent (changeSlots d (set (d .gens) s (up (generationAt d s))) (s ∷ d .free)) false
 
 -- the text slots of fields go on the free text list, their bytes stay
 abbrev pub pushedAll : Pool → List (Option ℕ) → Pool

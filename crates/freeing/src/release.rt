@@ -8,21 +8,21 @@ ghost use lib.ListN.{length};
 ghost use Rattle.model.specs.Kinds.{textsOf};
 ghost use Rattle.model.specs.Doc.{kindIn};
 ghost use Rattle.texts.specs.Pool.{reclaimed};
-ghost use Rattle.memory.specs.Layout.{memoryOk};
+ghost use Rattle.layout.specs.Layout.{memoryOk};
 ghost use Rattle.memory.specs.Decode.{slotOf, kindOf, slotsMade, decode};
 ghost use Rattle.memory.specs.Step.{Step};
 ghost use Rattle.edits.specs.Pooled.{setPool};
 ghost use Rattle.freeing.specs.Freed.{textsIn, pushedAll};
 ghost use Rattle.freeing.specs.Asked.{Releasable, Reclaimable};
-use edits::storing::with_texts;
-use memory::layout::Document;
-use memory::stored::text_counts;
-use memory::stored::text_limits;
-use slots::Chars;
-use slots::Loaded;
-use slots::NodeData;
-use slots::NodeSlot;
-use slots::TextSlot;
+use layout::Document;
+use layout::record::with_texts;
+use memory::parts::give_back;
+use memory::parts::push_text;
+use records::Chars;
+use records::Loaded;
+use records::NodeData;
+use words::NodeSlot;
+use words::TextSlot;
 
 // The text fields of a node: one that it does not have is empty.
 pub struct HeldTexts {
@@ -35,13 +35,7 @@ fn push_slot(d: Document, mem: &mut [u64], slot: TextSlot) -> Document
     requires { ⌜ (memoryOk d (length (now mem)) ≡ true) × Releasable (decode d (now mem)) (some (slot .0) ∷ []) ⌝ }
     ensures { λ r. ⌜ Step d (now (mem .entry)) r (now (mem .exit)) (setPool (decode d (now (mem .entry))) (pushedAll (decode d (now (mem .entry)) .pool) (some (slot .0) ∷ []))) ⌝ }
 {
-    let limits = text_limits(d);
-    let counts = text_counts(d);
-    let l = d.limits;
-    let start = memory::layout::texts_at(l);
-    let end = start + (2 * l.texts + l.textbytes);
-    let number = slot.0;
-    let after = texts::release::push_slot(&mut mem[start..end], limits, counts, number as usize);
+    let after = push_text(d, mem, slot);
     with_texts(d, after)
 }
 
@@ -122,18 +116,6 @@ pub fn reclaim_texts(d: Document, mem: &mut [u64], scratch: &mut [u64]) -> Docum
     requires { ⌜ (memoryOk d (length (now mem)) ≡ true) × (d .limits .texts ≤ length (now scratch)) × Reclaimable (decode d (now mem)) ⌝ }
     ensures { λ r. ⌜ Step d (now (mem .entry)) r (now (mem .exit)) (setPool (decode d (now (mem .entry))) (reclaimed (decode d (now (mem .entry)) .pool))) ⌝ }
 {
-    let limits = text_limits(d);
-    let counts = text_counts(d);
-    let l = d.limits;
-    let c = d.counts;
-    let start = memory::layout::texts_at(l);
-    let end = start + (2 * l.texts + l.textbytes);
-    let marks = c.texts;
-    let after = texts::release::reclaim(
-        &mut mem[start..end],
-        limits,
-        counts,
-        &mut scratch[0..marks],
-    );
+    let after = give_back(d, mem, scratch);
     with_texts(d, after)
 }

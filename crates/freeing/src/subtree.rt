@@ -3,13 +3,13 @@ ghost use mathlib.Core.Path.{_≡_};
 ghost use mathlib.Core.Bool.{true, false};
 ghost use Prim.Native.Nat.{_≤_};
 ghost use lib.ListN.{length};
-ghost use Rattle.slots.specs.Handles.{wordOf};
+ghost use Rattle.records.specs.Handles.{wordOf};
 ghost use Rattle.model.specs.Kinds.{isRoot};
 ghost use Rattle.model.specs.Doc.{resolves, kindAt};
 ghost use Rattle.model.specs.Rules.{Rules};
 ghost use Rattle.model.specs.Edits.{subtree, freeAll};
 ghost use Rattle.model.specs.Calls.{removed};
-ghost use Rattle.memory.specs.Layout.{memoryOk, buffersOk};
+ghost use Rattle.layout.specs.Layout.{memoryOk, buffersOk};
 ghost use Rattle.memory.specs.Decode.{decode};
 ghost use Rattle.memory.specs.Step.{Step};
 ghost use Rattle.freeing.specs.Freed.{freeAllSlots};
@@ -17,13 +17,13 @@ ghost use Rattle.freeing.specs.Asked.{SubtreeFreeable, Reclaimable};
 use crate::node::free_node;
 use crate::release::reclaim_texts;
 use edits::hooks::unhook;
-use memory::layout::Document;
+use layout::Document;
 use memory::read::made;
-use slots::NodeId;
-use slots::NodeSlot;
-use slots::handle::id_of;
-use slots::handle::word_of;
+use records::NodeId;
+use records::handle::id_of;
+use records::handle::word_of;
 use walks::list::push_lists;
+use words::NodeSlot;
 
 // Pushes children, attributes and namespaces, pops from the end, and frees each after pushing its own.
 fn free_nodes(d: Document, mem: &mut [u64], stack: &mut [u64], id: NodeId) -> Document

@@ -13,8 +13,8 @@ use Rattle.blocks.specs.Held.{Held}
 use Rattle.blocks.specs.declared.Inserted.{Inserted}
 use Rattle.blocks.proofs.Decoded.{after-length, after-removal-length, held-limit}
 use Rattle.model.specs.Kinds.{Which}
-use Rattle.memory.specs.declared.layout.Document.{Document}
-use Rattle.memory.specs.Layout.{limitsOf, entriesOf, arenaAt}
+use Rattle.layout.specs.declared.Document.{Document}
+use Rattle.layout.specs.Layout.{limitsOf, entriesOf, arenaAt}
 use Rattle.memory.specs.Decode.{arenaPart, arenaUsed, arenaIn}
 use Rattle.memory.specs.Writing.{putArena}
 

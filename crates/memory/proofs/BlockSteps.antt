@@ -1,7 +1,7 @@
 -- The steps of an edit of a node's block, over plain values.
 -- Assumes nothing.
 use mathlib.Core.Path.{_≡_, refl, sym, ap, _∙_}
-use mathlib.Core.Bool.{true, false, false≢true}
+use mathlib.Core.Bool.{true, false≢true}
 use mathlib.Core.List.{List}
 use Prim.Native.Nat.{ℕ, _+_, _≤_, _<_}
 use native.Mathlib.Omega.{arith}
@@ -20,24 +20,21 @@ use Rattle.blocks.proofs.Decoded.{after-length, after-removal-length}
 use Rattle.blocks.proofs.Edits.{inserted-len, inserted-in-place, inserted-moved, removed-start, removed-used}
 use Rattle.blocks.proofs.Halves.{shaped-held, inside-held}
 use Rattle.blocks.proofs.Removal.{removed-inside}
-use Rattle.slots.specs.Fields.{RangeFits}
-use Rattle.slots.specs.declared.Range.{Range}
-use Rattle.slots.specs.declared.Node.{Node}
-use Rattle.slots.specs.declared.Loaded.{Loaded}
-use Rattle.slots.specs.declared.Loaded.the-variants.{Found, NoNode}
+use Rattle.records.specs.Fields.{RangeFits}
+use Rattle.records.specs.declared.Range.{Range}
+use Rattle.records.specs.declared.Node.{Node}
+use Rattle.records.specs.declared.Loaded.{Loaded}
+use Rattle.records.specs.declared.Loaded.the-variants.{Found, NoNode}
 use Rattle.model.specs.Kinds.{Which}
 use Rattle.model.specs.Doc.{even, isSome, rangeIn}
 use Rattle.model.specs.Rules.{hasRange}
 use Rattle.slots.specs.Regions.{generationAt}
-use Rattle.memory.specs.declared.layout.Arena as given
-use Rattle.memory.specs.declared.layout.Arena.the-variants.{Children, Attributes, Namespaces}
-use Rattle.memory.specs.declared.layout.Counts.{Counts}
-use Rattle.memory.specs.declared.layout.Document.{Document}
-use Rattle.memory.specs.Layout.{whichOf, entriesOf, memoryOk}
+use Rattle.layout.specs.declared.Document.{Document}
+use Rattle.layout.specs.Layout.{entriesOf, memoryOk}
 use Rattle.memory.specs.Decode.{kindOf, blockOf, kindLoaded, rangeLoaded, loadedAt, slotsPart, arenaPart, slotsMade, arenaUsed, arenaIn, poolIn, namesIn, lengthsAdd, decode}
-use Rattle.memory.specs.Writing.{putArena, putRange, recordWith}
-use Rattle.memory.specs.Entries.{BlockHeld, insertion, removal, rangeFrom, putBlock, lengthsWith, withUsed}
-use Rattle.memory.proofs.Limits.{sizes}
+use Rattle.memory.specs.Writing.{putArena, putRange}
+use Rattle.memory.specs.Entries.{BlockHeld, insertion, removal, rangeFrom, putBlock}
+use Rattle.layout.proofs.Sizes.{sizes}
 use Rattle.memory.proofs.Columns.{live-made, live-in, range-in, kind-found}
 use Rattle.memory.proofs.Shaped.{length-arenaPart}
 use Rattle.memory.proofs.Written.{length-putArena}
@@ -203,16 +200,3 @@ module _ (d : Document) (mem : List ℕ) (w : Which) (s : ℕ) (h : BlockHeld d 
             (ap (λ (k : ℕ). putRange d (putArena d w (arenaWords (R .arena)) mem) s w (record { start = k; len = R .block .len })) (sym (removed-start A (blockOf b) id)))
 
 -- ---- the record, by the code's name of the arena
-
-module _ (d : Document) (used : ℕ) (a : given.Arena) (c : Counts) where
-  pub used-children : a ≡ Children → c ≡ lengthsWith (d .counts) used (d .counts .attributes) (d .counts .namespaces) → recordWith d c false ≡ withUsed d (whichOf a) used
-  unfolding withUsed
-  used-children e q = rw (e, q)
-
-  pub used-attributes : a ≡ Attributes → c ≡ lengthsWith (d .counts) (d .counts .children) used (d .counts .namespaces) → recordWith d c false ≡ withUsed d (whichOf a) used
-  unfolding withUsed
-  used-attributes e q = rw (e, q)
-
-  pub used-namespaces : a ≡ Namespaces → c ≡ lengthsWith (d .counts) (d .counts .children) (d .counts .attributes) used → recordWith d c false ≡ withUsed d (whichOf a) used
-  unfolding withUsed
-  used-namespaces e q = rw (e, q)

@@ -9,10 +9,10 @@ use lib.ListN.{length, set}
 use borrow.Author.Tests.{lt-ltb}
 use Rattle.words.specs.Lists.{tabulate}
 use Rattle.words.proofs.Lists.{tabulate-same, tabulate-set}
-use Rattle.slots.specs.Records.{nodeOf}
+use Rattle.records.specs.Records.{nodeOf}
 use Rattle.slots.specs.Regions.{slotsWords, generationAt, freeAt, nodeAt, orderAt, putRecord}
-use Rattle.slots.specs.declared.NodeRecord.{NodeRecord}
-use Rattle.slots.specs.declared.Loaded.{Loaded}
+use Rattle.records.specs.declared.NodeRecord.{NodeRecord}
+use Rattle.records.specs.declared.Loaded.{Loaded}
 use Rattle.slots.proofs.Regions.{recordAt-putRecord, recordAt-putRecord-other, nodeAt-recordAt, generationAt-putRecord, freeAt-putRecord, orderAt-putRecord}
 use Rattle.memory.specs.Decode.{loadedAt}
 

@@ -13,21 +13,21 @@ use borrow.Author.Tests.{lt-ltb, eq-eqb, ne-eqb}
 use Rattle.words.specs.Lists.{tabulate}
 use Rattle.words.proofs.Lists.{length-tabulate, getD-tabulate}
 use Rattle.blocks.specs.Arena.{block, listOf}
-use Rattle.slots.specs.Handles.{wordOf, handleIndex}
+use Rattle.records.specs.Handles.{wordOf, handleIndex}
 use Rattle.slots.specs.Regions.{generationAt, nodeAt, orderAt}
 use Rattle.slots.specs.Slots.{isCurrent, resolved}
-use Rattle.slots.specs.declared.NodeId.{NodeId}
-use Rattle.slots.specs.declared.Node.{Node}
-use Rattle.slots.specs.declared.Loaded.{Loaded}
-use Rattle.slots.specs.declared.Loaded.the-variants.{Found, NoNode}
-use Rattle.slots.proofs.Handles.{handleIndex-wordOf, handleGeneration-wordOf}
+use Rattle.records.specs.declared.NodeId.{NodeId}
+use Rattle.records.specs.declared.Node.{Node}
+use Rattle.records.specs.declared.Loaded.{Loaded}
+use Rattle.records.specs.declared.Loaded.the-variants.{Found, NoNode}
+use Rattle.records.proofs.Handles.{handleIndex-wordOf, handleGeneration-wordOf}
 use Rattle.slots.proofs.Slots.{resolves-found, resolves-current}
 use Rattle.texts.specs.Pool.{Pool}
 use Rattle.names.specs.Table.{Name}
 use Rattle.model.specs.Kinds.{Which}
 use Rattle.model.specs.Doc as doc
 use Rattle.model.specs.Doc.{Doc, even, isSome, handleWord, liveSlot, handleAt, resolves, kindIn, parentIn, rangeIn, listIn}
-use Rattle.memory.specs.declared.layout.Document.{Document}
+use Rattle.layout.specs.declared.Document.{Document}
 use Rattle.memory.specs.Decode.{kindOf, handleOf, rangeOf, kindLoaded, parentLoaded, rangeLoaded, loadedAt, slotsPart, slotsMade, arenaIn, resolvedIn, decodeWith}
 
 past-tabulate : {A : Type 0} (f : ℕ → A) (n i : ℕ) (e : A) → n ≤ i → getD (tabulate f n) i e ≡ e

@@ -9,9 +9,9 @@ use Rattle.words.proofs.Tests.{and-left, and-right}
 use Rattle.model.specs.Kinds.{Which, children, attributes, namespaces}
 use Rattle.model.specs.Doc.{Limits}
 use Rattle.model.specs.Edits.{updateWhich}
-use Rattle.memory.specs.declared.layout.Counts.{Counts}
-use Rattle.memory.specs.Decode.{usedOf, countsWithin}
-use Rattle.memory.specs.Entries.{countsWith}
+use Rattle.layout.specs.declared.Counts.{Counts}
+use Rattle.memory.specs.Decode.{countsWithin}
+use Rattle.layout.specs.Record.{usedOf, countsWith}
 
 pub record CountsFit (l : Limits) (c : Counts) : Type 0 where
   pub slots : c .slots ≤ l .nodes

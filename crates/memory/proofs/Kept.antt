@@ -11,11 +11,11 @@ use Rattle.words.proofs.Parts.{part-put-after}
 use Rattle.texts.specs.Words.{textShown}
 use Rattle.names.specs.Words.{nameShown}
 use Rattle.model.specs.Kinds.{Which, children}
-use Rattle.memory.specs.declared.layout.Document.{Document}
-use Rattle.memory.specs.Layout.{limitsOf, entriesOf, arenaAt, textsAt, textsWords, namesAt, namesWords, documentWords}
+use Rattle.layout.specs.declared.Document.{Document}
+use Rattle.layout.specs.Layout.{limitsOf, entriesOf, arenaAt, textsAt, textsWords, namesAt, namesWords, documentWords}
 use Rattle.memory.specs.Decode.{textLimits, textCounts, nameLimits, nameCounts, textsPart, namesPart, poolIn, namesIn, lengthsAdd, decodeWith, decode}
 use Rattle.memory.specs.Writing.{putSlots, putArena}
-use Rattle.memory.proofs.Limits.{arena-behind-slots, arena-inside, names-next, words-next}
+use Rattle.layout.proofs.Sizes.{arena-behind-slots, arena-inside, names-next, words-next}
 use Rattle.memory.proofs.Shaped.{part-take, decode-front}
 
 -- the words of texts and names are as they were

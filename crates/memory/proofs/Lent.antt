@@ -9,9 +9,9 @@ use native.Mathlib.Omega.{arith}
 use lib.ListN.{length, take, drop}
 use Rattle.words.specs.Parts.{part}
 use Rattle.words.proofs.Parts.{lent, length-part}
-use Rattle.slots.specs.declared.TextSlot.{TextSlot}
-use Rattle.slots.specs.declared.Chars.{Chars}
-use Rattle.slots.specs.declared.Chars.the-variants.{Empty, Expanded}
+use Rattle.words.specs.declared.TextSlot.{TextSlot}
+use Rattle.records.specs.declared.Chars.{Chars}
+use Rattle.records.specs.declared.Chars.the-variants.{Empty, Expanded}
 use Rattle.texts.specs.Pool.{textAt}
 use Rattle.texts.specs.Words.{textShown}
 use Rattle.texts.specs.declared.TextLimits.{TextLimits}
@@ -19,11 +19,11 @@ use Rattle.texts.specs.declared.TextCounts.{TextCounts}
 use Rattle.names.specs.Words.{nameThere, partShown}
 use Rattle.names.specs.declared.NameLimits.{NameLimits}
 use Rattle.names.specs.declared.NameCounts.{NameCounts}
-use Rattle.memory.specs.declared.layout.Document.{Document}
-use Rattle.memory.specs.Layout.{limitsOf, textsAt, namesAt, memoryOk}
+use Rattle.layout.specs.declared.Document.{Document}
+use Rattle.layout.specs.Layout.{limitsOf, textsAt, namesAt, memoryOk}
 use Rattle.memory.specs.Decode.{slotOf, textLimits, textCounts, textsPart, nameLimits, nameCounts, namesPart, poolIn}
 use Rattle.memory.specs.Stored.{textIn, namePart}
-use Rattle.memory.proofs.Limits.{memory-limits, memory-long, limits-fit, words-fit, texts-next, names-next, words-next}
+use Rattle.layout.proofs.Sizes.{memory-limits, memory-long, limits-fit, words-fit, texts-next, names-next, words-next}
 use Rattle.memory.proofs.Shown.{text-shown}
 
 -- the document's texts are those that the words show

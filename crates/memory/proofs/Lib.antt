@@ -1,4 +1,3 @@
-pub mod Limits
 pub mod Reading
 pub mod Columns
 pub mod Living
@@ -17,3 +16,4 @@ pub mod Promises
 pub mod Shown
 pub mod Lent
 pub mod Past
+pub mod Cuts

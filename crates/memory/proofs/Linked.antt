@@ -8,21 +8,22 @@ use Prim.Native.Nat.{ℕ, _+_, _≤_, _<_}
 use native.Mathlib.Nat.{min-eq-left}
 use lib.ListN.{length, set}
 use Rattle.blocks.specs.Arena.{block, Edit, arenaOf, arenaWords}
-use Rattle.slots.specs.Fields.{RangeFits}
-use Rattle.slots.specs.declared.Node.{Node}
-use Rattle.slots.specs.declared.Loaded.the-variants.{Found}
+use Rattle.records.specs.Fields.{RangeFits}
+use Rattle.records.specs.declared.Node.{Node}
+use Rattle.records.specs.declared.Loaded.the-variants.{Found}
 use Rattle.texts.specs.Pool.{Pool}
 use Rattle.names.specs.Table.{Name}
 use Rattle.model.specs.Kinds.{Which, children, attributes, namespaces, sameWhich}
-use Rattle.model.specs.Doc.{Doc}
+use Rattle.model.specs.Doc.{Doc, changeNodes, changeArenas, changeCurrent, changeFits}
 use Rattle.model.specs.Rules.{hasRange}
 use Rattle.model.specs.Edits.{updateWhich, setBlock}
-use Rattle.memory.specs.declared.layout.Document.{Document}
-use Rattle.memory.specs.Layout.{limitsOf, entriesOf, memoryOk}
+use Rattle.layout.specs.declared.Document.{Document}
+use Rattle.layout.specs.Layout.{limitsOf, entriesOf, memoryOk}
 use Rattle.memory.specs.Decode.{kindOf, loadedAt, countsWithin, slotsPart, arenaPart, slotsMade, arenaUsed, arenaIn, decodeWith}
 use Rattle.memory.specs.Writing.{putArena, putRange, setRange}
-use Rattle.memory.specs.Entries.{rangeFrom, putBlock, withUsed}
-use Rattle.memory.proofs.Limits.{memory-record}
+use Rattle.memory.specs.Entries.{rangeFrom, putBlock}
+use Rattle.layout.specs.Record.{withUsed}
+use Rattle.layout.proofs.Sizes.{memory-record}
 use Rattle.memory.proofs.Counted.{counts-kept}
 use Rattle.memory.proofs.Written.{sameWhich-refl, update-is, length-putArena, slotsPart-putArena, decode-putArena}
 use Rattle.memory.proofs.Steps.{decode-putRange}
@@ -86,18 +87,7 @@ module _ (p : Pool) (names : List (Option Name)) (lengths : Bool) (d : Document)
       decode-putRange p names lengths d′ mem₁ (memory-record d (length mem₁) (d′ .counts) false ok₁) s made m
       (ap (λ (v : List ℕ). loadedAt (d .limits .nodes) v s) slots ∙ loaded) w (rangeFrom (e .block)) has (f .fits)
       ∙ ap (λ (x : Doc). setRange x w s (e .block)) (decode-putArena d mem words ok w (f .long) p names lengths (d′ .counts) false)
-      ∙ (λ i. record {
-        limits = D .limits;
-        gens = D .gens;
-        free = D .free;
-        kinds = D .kinds;
-        parents = D .parents;
-        ranges = updateWhich (D .ranges) w (set (D .ranges w) s (e .block));
-        arenas = λ v. arenas-set v i;
-        order = D .order;
-        current = false;
-        pool = p;
-        names = names;
-        countsFit = (counts-kept (limitsOf (d .limits)) (d .counts) w (e .arena .used) counts (f .used) ∙ sym counts) i;
-        lengthsFit = lengths;
-      })
+      ∙ (λ i.
+      let ranges = updateWhich (D .ranges) w (set (D .ranges w) s (e .block)) in
+      let lists = changeArenas (changeNodes D (D .kinds) (D .parents) ranges) (λ v. arenas-set v i) in
+      changeFits (changeCurrent lists false) ((counts-kept (limitsOf (d .limits)) (d .counts) w (e .arena .used) counts (f .used) ∙ sym counts) i) lengths)

@@ -6,14 +6,14 @@ use mathlib.Core.List.{List}
 use Prim.Native.Nat.{ℕ, _%_, _≤_, _<_}
 use borrow.Author.Tests.{eq-eqb, ne-eqb, lt-ltb, le-ltb}
 use lib.Dec.{eqb}
-use Rattle.slots.specs.Handles.{wordOf}
-use Rattle.slots.specs.Records.{isNode, nodeOf}
+use Rattle.records.specs.Handles.{wordOf}
+use Rattle.records.specs.Records.{isNode, nodeOf}
 use Rattle.slots.specs.Regions.{generationAt, recordAt, nodeAt}
-use Rattle.slots.specs.declared.NodeId.{NodeId}
-use Rattle.slots.specs.declared.NodeRecord.{NodeRecord}
+use Rattle.records.specs.declared.NodeId.{NodeId}
+use Rattle.records.specs.declared.NodeRecord.{NodeRecord}
 use Rattle.model.specs.Doc as doc
 use Rattle.model.specs.Doc.{Doc, liveSlot, resolves, isSome}
-use Rattle.memory.specs.declared.layout.Document.{Document}
+use Rattle.layout.specs.declared.Document.{Document}
 use Rattle.memory.specs.Decode.{kindLoaded, slotsPart, slotsMade, poolIn, namesIn, lengthsAdd, decode}
 use Rattle.memory.proofs.Columns as columns
 

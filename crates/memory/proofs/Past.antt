@@ -9,15 +9,15 @@ use lib.ListN.{length, drop}
 use Rattle.words.proofs.Parts.{drop-put-after}
 use Rattle.blocks.specs.Arena.{Edit, arenaWords}
 use Rattle.slots.specs.Regions.{slotsWords, putRecord}
-use Rattle.slots.specs.declared.NodeRecord.{NodeRecord}
+use Rattle.records.specs.declared.NodeRecord.{NodeRecord}
 use Rattle.slots.proofs.Regions.{length-putRecord}
 use Rattle.model.specs.Kinds.{Which, children}
-use Rattle.memory.specs.declared.layout.Document.{Document}
-use Rattle.memory.specs.Layout.{limitsOf, entriesOf, arenaAt, documentWords, memoryOk}
+use Rattle.layout.specs.declared.Document.{Document}
+use Rattle.layout.specs.Layout.{limitsOf, entriesOf, arenaAt, documentWords, memoryOk}
 use Rattle.memory.specs.Decode.{slotsPart}
 use Rattle.memory.specs.Writing.{putSlots, putArena, putWords, putRange}
 use Rattle.memory.specs.Entries.{putBlock}
-use Rattle.memory.proofs.Limits.{sizes, arena-behind-slots, arena-inside, names-next, words-next}
+use Rattle.layout.proofs.Sizes.{sizes, arena-behind-slots, arena-inside, names-next, words-next}
 use Rattle.memory.proofs.Shaped.{length-slotsPart}
 use Rattle.memory.proofs.Written.{length-putArena}
 use Rattle.memory.proofs.Steps.{length-putWords}

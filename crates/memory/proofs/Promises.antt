@@ -13,26 +13,27 @@ use Rattle.blocks.specs.Held.{Held}
 use Rattle.blocks.proofs.Answers.{answer-room, words-room}
 use Rattle.blocks.proofs.Decoded.{decoded-inserted, decoded-removed, after-length, after-removal-length}
 use Rattle.blocks.proofs.Edits.{inserted-used, room-then, removed-used}
-use Rattle.slots.specs.Fields.{RangeFits, ParentFits, NodeFits}
-use Rattle.slots.specs.Handles.{handleIndex}
+use Rattle.records.specs.Fields.{RangeFits, ParentFits, NodeFits}
+use Rattle.records.specs.Handles.{handleIndex}
 use Rattle.slots.specs.Regions.{slotsWords, generationAt, putRecord}
-use Rattle.slots.specs.declared.Parent.{Parent}
-use Rattle.slots.specs.declared.Range.{Range}
-use Rattle.slots.specs.declared.Node.{Node}
-use Rattle.slots.specs.declared.NodeRecord.{NodeRecord}
-use Rattle.slots.specs.declared.Loaded.the-variants.{Found}
+use Rattle.records.specs.declared.Parent.{Parent}
+use Rattle.records.specs.declared.Range.{Range}
+use Rattle.records.specs.declared.Node.{Node}
+use Rattle.records.specs.declared.NodeRecord.{NodeRecord}
+use Rattle.records.specs.declared.Loaded.the-variants.{Found}
 use Rattle.slots.proofs.Regions.{length-putRecord}
 use Rattle.model.specs.Kinds as kinds
 use Rattle.model.specs.Kinds.{Which}
 use Rattle.model.specs.Doc.{liveSlot, kindIn, kindAt, rangeIn}
 use Rattle.model.specs.Rules.{hasRange, Rules}
 use Rattle.model.specs.Edits.{setParent, setBlock, link, unlinkFrom}
-use Rattle.memory.specs.declared.layout.Document.{Document}
-use Rattle.memory.specs.Layout.{limitsOf, entriesOf, memoryOk}
-use Rattle.memory.specs.Decode.{kindOf, handleOf, blockOf, rangeOf, loadedAt, usedOf, slotsPart, arenaPart, slotsMade, arenaUsed, poolIn, namesIn, lengthsAdd, decode}
-use Rattle.memory.specs.Writing.{putArena, putWords, putNode, putRange, putParent, outdated, setNode, setRange}
-use Rattle.memory.specs.Entries.{BlockHeld, insertion, removal, rangeFrom, putBlock, withUsed}
-use Rattle.memory.proofs.Limits.{sizes}
+use Rattle.layout.specs.declared.Document.{Document}
+use Rattle.layout.specs.Layout.{limitsOf, entriesOf, memoryOk}
+use Rattle.memory.specs.Decode.{kindOf, handleOf, blockOf, rangeOf, loadedAt, slotsPart, arenaPart, slotsMade, arenaUsed, poolIn, namesIn, lengthsAdd, decode}
+use Rattle.layout.specs.Record.{usedOf, outdated, withUsed}
+use Rattle.memory.specs.Writing.{putArena, putWords, putNode, putRange, putParent, setNode, setRange}
+use Rattle.memory.specs.Entries.{BlockHeld, insertion, removal, rangeFrom, putBlock}
+use Rattle.layout.proofs.Sizes.{sizes}
 use Rattle.memory.proofs.Counted.{counts-fit}
 use Rattle.memory.proofs.Shaped.{length-slotsPart, length-ids}
 use Rattle.memory.proofs.Written.{length-putArena}

@@ -9,19 +9,20 @@ use lib.Seq.{getD-take}
 use borrow.Author.Tests.{lt-ltb, le-ltb}
 use Rattle.words.specs.Parts.{part}
 use Rattle.words.proofs.Parts.{getD-part, take-part, part-part}
-use Rattle.slots.specs.Records.{nodeOf}
+use Rattle.records.specs.Records.{nodeOf}
 use Rattle.slots.specs.Regions.{generationAt, recordAt, nodeAt}
-use Rattle.slots.specs.declared.NodeRecord.{NodeRecord}
-use Rattle.slots.specs.declared.Loaded.{Loaded}
-use Rattle.slots.specs.declared.Loaded.the-variants.{NoNode}
-use Rattle.slots.specs.declared.Node.{Node}
-use Rattle.slots.specs.declared.Range.{Range}
+use Rattle.records.specs.declared.NodeRecord.{NodeRecord}
+use Rattle.records.specs.declared.Loaded.{Loaded}
+use Rattle.records.specs.declared.Loaded.the-variants.{NoNode}
+use Rattle.records.specs.declared.Node.{Node}
+use Rattle.records.specs.declared.Range.{Range}
 use Rattle.model.specs.Kinds.{Which, children, attributes, namespaces}
-use Rattle.memory.specs.declared.layout.Document.{Document}
-use Rattle.memory.specs.declared.layout.Arena.{Arena}
-use Rattle.memory.specs.declared.layout.Arena.the-variants.{Children, Attributes, Namespaces}
-use Rattle.memory.specs.Layout.{whichOf, limitsOf, entriesOf, arenaAt}
-use Rattle.memory.specs.Decode.{blockOf, elementRange, rangeOf, usedOf, slotsPart, arenaPart, arenaUsed, arenaIn, loadedAt}
+use Rattle.layout.specs.declared.Document.{Document}
+use Rattle.layout.specs.declared.Arena.{Arena}
+use Rattle.layout.specs.declared.Arena.the-variants.{Children, Attributes, Namespaces}
+use Rattle.layout.specs.Layout.{whichOf, limitsOf, entriesOf, arenaAt}
+use Rattle.memory.specs.Decode.{blockOf, elementRange, rangeOf, slotsPart, arenaPart, arenaUsed, arenaIn, loadedAt}
+use Rattle.layout.specs.Record.{usedOf}
 
 -- the part of the slots, as it is lent
 pub slots-lent : (d : Document) (mem : List ℕ) → take (15 * d .limits .nodes - 0) (drop 0 mem) ≡ slotsPart d mem

@@ -15,24 +15,24 @@ use Rattle.words.specs.Lists.{tabulate}
 use Rattle.words.proofs.Parts.{length-part, part-part}
 use Rattle.words.proofs.Lists.{length-tabulate}
 use Rattle.blocks.specs.Arena.{block}
-use Rattle.slots.specs.Fields.{NodeFits}
+use Rattle.records.specs.Fields.{NodeFits}
 use Rattle.slots.specs.Regions.{generationAt, nodeAt, orderAt}
-use Rattle.slots.specs.declared.Range.{Range}
-use Rattle.slots.specs.declared.NodeData.{NodeData}
-use Rattle.slots.specs.declared.NodeData.the-variants as given
-use Rattle.slots.specs.declared.Node.{Node}
-use Rattle.slots.specs.declared.Loaded.{Loaded}
-use Rattle.slots.specs.declared.Loaded.the-variants.{Found, NoNode}
+use Rattle.records.specs.declared.Range.{Range}
+use Rattle.records.specs.declared.NodeData.{NodeData}
+use Rattle.records.specs.declared.NodeData.the-variants as given
+use Rattle.records.specs.declared.Node.{Node}
+use Rattle.records.specs.declared.Loaded.{Loaded}
+use Rattle.records.specs.declared.Loaded.the-variants.{Found, NoNode}
 use Rattle.slots.proofs.Regions.{nodeAt-fits}
 use Rattle.texts.specs.Pool.{Pool}
 use Rattle.names.specs.Table.{Name}
 use Rattle.model.specs.Kinds.{Kind, Which, children, attributes, namespaces}
 use Rattle.model.specs.Doc.{rangeIn}
 use Rattle.model.specs.Rules.{Shape, hasRange}
-use Rattle.memory.specs.declared.layout.Document.{Document}
-use Rattle.memory.specs.Layout.{limitsOf, entriesOf, arenaAt, documentWords, memoryOk}
+use Rattle.layout.specs.declared.Document.{Document}
+use Rattle.layout.specs.Layout.{limitsOf, entriesOf, arenaAt, documentWords, memoryOk}
 use Rattle.memory.specs.Decode.{kindOf, blockOf, elementRange, rangeOf, kindLoaded, parentLoaded, rangeLoaded, loadedAt, slotsPart, arenaPart, slotsMade, arenaIn, documentOf, decodeWith}
-use Rattle.memory.proofs.Limits.{sizes, arena-inside, arena-behind-slots, words-next, names-next}
+use Rattle.layout.proofs.Sizes.{sizes, arena-inside, arena-behind-slots, words-next, names-next}
 use Rattle.memory.proofs.Columns.{kind-column, range-in}
 
 -- ---- the parts have their lengths

@@ -18,7 +18,7 @@ use Rattle.texts.proofs.Words.{pool-slots, shown-text}
 use Rattle.names.specs.Table.{Name, nameAt}
 use Rattle.names.specs.Words.{nameShown, tableOf, TableHeld}
 use Rattle.names.proofs.Words.{there-number, shown-none, table-names, shown-name}
-use Rattle.memory.specs.declared.layout.Document.{Document}
+use Rattle.layout.specs.declared.Document.{Document}
 use Rattle.memory.specs.Decode.{textLimits, textCounts, nameLimits, nameCounts, textsPart, namesPart, poolIn, namesIn}
 
 -- the stack of released text slots

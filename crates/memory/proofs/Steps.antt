@@ -11,54 +11,38 @@ use lib.Dec.{ltb}
 use borrow.Author.Tests.{ltb-true}
 use Rattle.words.specs.Lists.{tabulate}
 use Rattle.blocks.specs.Arena.{Block}
-use Rattle.slots.specs.Fields.{RangeFits, ParentFits, ChildrenFit, NodeFits}
-use Rattle.slots.specs.Handles.{handleIndex}
-use Rattle.slots.specs.Records.{spanOf, recordOf, nodeOf}
-use Rattle.slots.specs.Ranges.{withChildren}
+use Rattle.records.specs.Fields.{RangeFits, ParentFits, ChildrenFit, NodeFits}
+use Rattle.records.specs.Handles.{handleIndex}
+use Rattle.records.specs.Records.{spanOf, recordOf, nodeOf}
+use Rattle.records.specs.Ranges.{withChildren}
 use Rattle.slots.specs.Regions.{slotsWords, generationAt, recordAt, nodeAt, putRecord}
-use Rattle.slots.specs.declared.Parent.{Parent}
-use Rattle.slots.specs.declared.Range.{Range}
-use Rattle.slots.specs.declared.NodeData.{NodeData}
-use Rattle.slots.specs.declared.NodeData.the-variants as given
-use Rattle.slots.specs.declared.Node.{Node}
-use Rattle.slots.specs.declared.NodeRecord.{NodeRecord}
-use Rattle.slots.specs.declared.Loaded.{Loaded}
-use Rattle.slots.specs.declared.Loaded.the-variants.{Found, NoNode}
-use Rattle.slots.proofs.Records.{record-back, node-back, found-fits}
-use Rattle.slots.proofs.Ranges.{node-withChildren, node-withAttributes, node-withNamespaces}
+use Rattle.records.specs.declared.Parent.{Parent}
+use Rattle.records.specs.declared.Range.{Range}
+use Rattle.records.specs.declared.NodeData.{NodeData}
+use Rattle.records.specs.declared.NodeData.the-variants as given
+use Rattle.records.specs.declared.Node.{Node}
+use Rattle.records.specs.declared.NodeRecord.{NodeRecord}
+use Rattle.records.specs.declared.Loaded.{Loaded}
+use Rattle.records.specs.declared.Loaded.the-variants.{Found, NoNode}
+use Rattle.records.proofs.Records.{record-back, node-back, found-fits}
+use Rattle.records.proofs.Ranges.{node-withChildren, node-withAttributes, node-withNamespaces}
 use Rattle.slots.proofs.Regions.{length-putRecord}
 use Rattle.texts.specs.Pool.{Pool}
 use Rattle.names.specs.Table.{Name}
 use Rattle.model.specs.Kinds.{Kind, Which, children, attributes, namespaces, sameWhich, isElement}
-use Rattle.model.specs.Doc.{Doc}
+use Rattle.model.specs.Doc.{Doc, changeSlots, changeNodes, changeOrder}
 use Rattle.model.specs.Rules.{hasRange}
 use Rattle.model.specs.Edits.{setParent}
-use Rattle.memory.specs.declared.layout.Counts.{Counts}
-use Rattle.memory.specs.declared.layout.Document.{Document}
-use Rattle.memory.specs.Layout.{limitsOf, memoryOk}
+use Rattle.layout.specs.declared.Counts.{Counts}
+use Rattle.layout.specs.declared.Document.{Document}
+use Rattle.layout.specs.Layout.{memoryOk}
 use Rattle.memory.specs.Decode.{kindOf, handleOf, blockOf, rangeOf, kindLoaded, parentLoaded, rangeLoaded, loadedAt, slotsPart, slotsMade, slotsFree, decodeWith}
-use Rattle.memory.specs.Writing.{putWords, wordsAt, withRange, withParent, putNode, putRange, putParent, recordWith, outdated, setNode, setRange}
+use Rattle.memory.specs.Writing.{putWords, wordsAt, withRange, putNode, putRange, putParent, setNode, setRange}
+use Rattle.records.specs.Ranges.{withParent}
+use Rattle.layout.specs.Record.{recordWith, outdated}
 use Rattle.memory.proofs.Shaped.{length-slotsPart}
 use Rattle.memory.proofs.Columned.{loaded-here, gens-kept, free-kept, order-kept, column-set, column-kept}
 use Rattle.memory.proofs.Written.{length-putSlots, decode-putSlots, update-is}
-
--- a document with other columns
-abbrev withColumns : Doc → List (Option (Kind ℕ (Option ℕ))) → List (Option ℕ) → (Which → List Block) → Doc
-withColumns d k p r = record {
-  limits = d .limits;
-  gens = d .gens;
-  free = d .free;
-  kinds = k;
-  parents = p;
-  ranges = r;
-  arenas = d .arenas;
-  order = d .order;
-  current = d .current;
-  pool = d .pool;
-  names = d .names;
-  countsFit = d .countsFit;
-  lengthsFit = d .lengthsFit;
-}
 
 made-fits : (d : Document) → slotsMade d ≤ d .limits .nodes
 made-fits d = omega arith
@@ -174,24 +158,13 @@ module _ (d : Document) (mem : List ℕ) (ok : memoryOk d (length mem) ≡ true)
         (k : tabulate (λ t. kindLoaded (loadedAt n (putRecord n w s r) t)) (slotsMade e) ≡ K)
         (q : tabulate (λ t. parentLoaded (loadedAt n (putRecord n w s r) t)) (slotsMade e) ≡ P)
         (v : (a : Which) → tabulate (λ t. rangeLoaded a (loadedAt n (putRecord n w s r) t)) (slotsMade e) ≡ R a) where
-      decode-words : decodeWith p names lengths e (putWords d mem s r) ≡ withColumns D K P R
+      decode-words : decodeWith p names lengths e (putWords d mem s r) ≡ changeNodes D K P R
       decode-words =
           decode-putSlots d mem (putRecord n w s r) ok size p names lengths counts current
-          ∙ (λ i. record {
-            limits = limitsOf (d .limits);
-            gens = gens-kept n w long s r b (slotsMade e) (made-fits e) i;
-            free = reverse (free-kept n w long s r b (slotsFree e) (free-fits e) i);
-            kinds = k i;
-            parents = q i;
-            ranges = λ a. v a i;
-            arenas = D .arenas;
-            order = order-kept n w long s r b n (omega arith) i;
-            current = current;
-            pool = p;
-            names = names;
-            countsFit = D .countsFit;
-            lengthsFit = lengths;
-          })
+          ∙ (λ i.
+          let gens = gens-kept n w long s r b (slotsMade e) (made-fits e) i in
+          let free = reverse (free-kept n w long s r b (slotsFree e) (free-fits e) i) in
+          changeOrder (changeSlots (changeNodes D (k i) (q i) (λ a. v a i)) gens free) (order-kept n w long s r b n (omega arith) i) current)
 
     module _ (h : s < slotsMade (recordWith d counts current)) where
       kinds-set : (x : Loaded) → loadedAt n (putRecord n w s r) s ≡ x → tabulate (λ t. kindLoaded (loadedAt n (putRecord n w s r) t)) (slotsMade e) ≡ set (D .kinds) s (kindLoaded x)

@@ -12,23 +12,23 @@ use lib.Dec.{eqb, ltb}
 use borrow.Author.Tests.{ne-eqb}
 use Rattle.words.proofs.Parts.{getD-part}
 use Rattle.blocks.specs.Arena.{block}
-use Rattle.slots.specs.Records.{charsWord, kindWord, nameWord, firstText, secondText, parentWord, parentGeneration, attributesSpan, namespacesSpan, recordOf, isNode, charsOf, parentOf, foundNode, nodeOf}
+use Rattle.records.specs.Records.{charsWord, kindWord, nameWord, firstText, secondText, parentWord, parentGeneration, attributesSpan, namespacesSpan, recordOf, isNode, charsOf, parentOf, foundNode, nodeOf}
 use Rattle.slots.specs.Regions.{recordStart, generationAt, recordAt, nodeAt}
 use Rattle.slots.proofs.Regions.{recordAt-nodeAt}
-use Rattle.slots.proofs.Decoding.{Narrow, narrow}
-use Rattle.slots.specs.declared.Chars.{Chars}
-use Rattle.slots.specs.declared.Chars.the-variants.{Empty, Expanded}
-use Rattle.slots.specs.declared.Parent.{Parent}
-use Rattle.slots.specs.declared.Parent.the-variants.{None, Of}
-use Rattle.slots.specs.declared.NodeData.{NodeData}
-use Rattle.slots.specs.declared.NodeData.the-variants as given
-use Rattle.slots.specs.declared.Node.{Node}
-use Rattle.slots.specs.declared.NodeRecord.{NodeRecord}
-use Rattle.slots.specs.declared.Loaded.{Loaded}
-use Rattle.slots.specs.declared.Loaded.the-variants.{Found, NoNode}
+use Rattle.records.proofs.Decoding.{Narrow, narrow}
+use Rattle.records.specs.declared.Chars.{Chars}
+use Rattle.records.specs.declared.Chars.the-variants.{Empty, Expanded}
+use Rattle.records.specs.declared.Parent.{Parent}
+use Rattle.records.specs.declared.Parent.the-variants.{None, Of}
+use Rattle.records.specs.declared.NodeData.{NodeData}
+use Rattle.records.specs.declared.NodeData.the-variants as given
+use Rattle.records.specs.declared.Node.{Node}
+use Rattle.records.specs.declared.NodeRecord.{NodeRecord}
+use Rattle.records.specs.declared.Loaded.{Loaded}
+use Rattle.records.specs.declared.Loaded.the-variants.{Found, NoNode}
 use Rattle.model.specs.Kinds.{Kind, root, element, attribute, text, comment, namespace, instruction, Which, children, attributes, namespaces, isElement}
 use Rattle.model.specs.Doc.{Doc, isNone, liveSlot, kindIn, parentIn, rangeIn}
-use Rattle.memory.specs.declared.layout.Document.{Document}
+use Rattle.layout.specs.declared.Document.{Document}
 use Rattle.memory.specs.Decode.{kindOf, handleOf, slotOf, elementRange, rangeOf, loadedAt, slotsPart, slotsMade, poolIn, namesIn, lengthsAdd, decode}
 use Rattle.memory.specs.Words.{recordWord, blockAt, kindNumber, nameNumber, firstSlot, secondSlot}
 use Rattle.memory.proofs.Columns as columns

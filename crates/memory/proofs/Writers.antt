@@ -8,19 +8,20 @@ use native.Mathlib.Omega.{arith}
 use lib.ListN.{length, take, drop}
 use Rattle.words.specs.Parts.{part, put}
 use Rattle.words.proofs.Parts.{put-back}
-use Rattle.slots.specs.Records.{spanOf, recordOf}
+use Rattle.records.specs.Records.{spanOf, recordOf}
 use Rattle.slots.specs.Regions.{putRecord}
-use Rattle.slots.specs.declared.Node.{Node}
-use Rattle.slots.specs.declared.Parent.{Parent}
-use Rattle.slots.specs.declared.Range.{Range}
-use Rattle.slots.specs.declared.Span.{Span}
-use Rattle.slots.specs.declared.NodeRecord.{NodeRecord}
+use Rattle.records.specs.declared.Node.{Node}
+use Rattle.records.specs.declared.Parent.{Parent}
+use Rattle.records.specs.declared.Range.{Range}
+use Rattle.records.specs.declared.Span.{Span}
+use Rattle.records.specs.declared.NodeRecord.{NodeRecord}
 use Rattle.slots.proofs.Regions.{length-putRecord}
-use Rattle.memory.specs.declared.layout.Document.{Document}
-use Rattle.memory.specs.declared.layout.Arena.{Arena}
-use Rattle.memory.specs.Layout.{whichOf, memoryOk}
+use Rattle.layout.specs.declared.Document.{Document}
+use Rattle.layout.specs.declared.Arena.{Arena}
+use Rattle.layout.specs.Layout.{whichOf, memoryOk}
 use Rattle.memory.specs.Decode.{slotsPart}
-use Rattle.memory.specs.Writing.{putSlots, putWords, wordsAt, withRange, withParent, putNode, putRange, putParent}
+use Rattle.memory.specs.Writing.{putSlots, putWords, wordsAt, withRange, putNode, putRange, putParent}
+use Rattle.records.specs.Ranges.{withParent}
 use Rattle.memory.proofs.Reading.{slots-lent}
 use Rattle.memory.proofs.Shaped.{length-slotsPart}
 

@@ -14,12 +14,13 @@ use Rattle.texts.specs.Pool.{Pool}
 use Rattle.names.specs.Table.{Name}
 use Rattle.model.specs.Kinds.{Which, children, attributes, namespaces, sameWhich}
 use Rattle.model.specs.Edits.{updateWhich}
-use Rattle.memory.specs.declared.layout.Counts.{Counts}
-use Rattle.memory.specs.declared.layout.Document.{Document}
-use Rattle.memory.specs.Layout.{limitsOf, entriesOf, arenaAt, memoryOk}
+use Rattle.layout.specs.declared.Counts.{Counts}
+use Rattle.layout.specs.declared.Document.{Document}
+use Rattle.layout.specs.Layout.{limitsOf, entriesOf, arenaAt, memoryOk}
 use Rattle.memory.specs.Decode.{slotsPart, arenaPart, documentOf, decodeWith}
-use Rattle.memory.specs.Writing.{putSlots, putArena, recordWith}
-use Rattle.memory.proofs.Limits.{sizes, arena-behind-slots, arenas-apart}
+use Rattle.memory.specs.Writing.{putSlots, putArena}
+use Rattle.layout.specs.Record.{recordWith}
+use Rattle.layout.proofs.Sizes.{sizes, arena-behind-slots, arenas-apart}
 
 pub sameWhich-true : (v w : Which) → sameWhich v w ≡ true → v ≡ w
 sameWhich-true children children e = refl

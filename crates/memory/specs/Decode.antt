@@ -10,20 +10,20 @@ use Rattle.words.specs.Parts.{part}
 use Rattle.words.specs.Lists.{tabulate}
 use Rattle.words.specs.Ends.{endsReach}
 use Rattle.blocks.specs.Arena.{Arena, Block, block, arenaOf}
-use Rattle.slots.specs.Handles.{wordOf}
+use Rattle.records.specs.Handles.{wordOf}
 use Rattle.slots.specs.Regions.{slotsWords, generationAt, freeAt, nodeAt, orderAt}
 use Rattle.slots.specs.Slots.{resolved}
-use Rattle.slots.specs.declared.NodeId.{NodeId}
-use Rattle.slots.specs.declared.Chars.{Chars}
-use Rattle.slots.specs.declared.Chars.the-variants.{Empty, Expanded}
-use Rattle.slots.specs.declared.Parent.{Parent}
-use Rattle.slots.specs.declared.Parent.the-variants as parent
-use Rattle.slots.specs.declared.NodeData.{NodeData}
-use Rattle.slots.specs.declared.NodeData.the-variants as given
-use Rattle.slots.specs.declared.Range.{Range}
-use Rattle.slots.specs.declared.Node.{Node}
-use Rattle.slots.specs.declared.Loaded.{Loaded}
-use Rattle.slots.specs.declared.Loaded.the-variants.{Found, NoNode}
+use Rattle.records.specs.declared.NodeId.{NodeId}
+use Rattle.records.specs.declared.Chars.{Chars}
+use Rattle.records.specs.declared.Chars.the-variants.{Empty, Expanded}
+use Rattle.records.specs.declared.Parent.{Parent}
+use Rattle.records.specs.declared.Parent.the-variants as parent
+use Rattle.records.specs.declared.NodeData.{NodeData}
+use Rattle.records.specs.declared.NodeData.the-variants as given
+use Rattle.records.specs.declared.Range.{Range}
+use Rattle.records.specs.declared.Node.{Node}
+use Rattle.records.specs.declared.Loaded.{Loaded}
+use Rattle.records.specs.declared.Loaded.the-variants.{Found, NoNode}
 use Rattle.model.specs.Kinds.{Kind, root, element, attribute, text, comment, namespace, instruction, Which, children, attributes, namespaces}
 use Rattle.texts.specs.Pool.{Pool}
 use Rattle.texts.specs.Words.{textShown}
@@ -33,10 +33,11 @@ use Rattle.names.specs.Table.{Name}
 use Rattle.names.specs.Words.{nameShown}
 use Rattle.names.specs.declared.NameLimits.{NameLimits}
 use Rattle.names.specs.declared.NameCounts.{NameCounts}
-use Rattle.model.specs.Doc.{Doc, Limits}
-use Rattle.memory.specs.declared.layout.Counts.{Counts}
-use Rattle.memory.specs.declared.layout.Document.{Document}
-use Rattle.memory.specs.Layout.{limitsOf, slotsAt, arenaWords, arenaAt, textsAt, textsWords, namesAt, namesWords}
+use Rattle.model.specs.Doc.{Doc, Limits, columns}
+use Rattle.layout.specs.declared.Counts.{Counts}
+use Rattle.layout.specs.declared.Document.{Document}
+use Rattle.layout.specs.Record.{usedOf}
+use Rattle.layout.specs.Layout.{limitsOf, slotsAt, arenaWords, arenaAt, textsAt, textsWords, namesAt, namesWords}
 
 -- ---- a node
 
@@ -94,11 +95,6 @@ loadedAt n w s = cond (ltb (generationAt n w s) 4294967296) (nodeAt n w s) NoNod
 
 -- ---- the counts
 
-abbrev pub usedOf : Counts → Which → ℕ
-usedOf c children = c .children
-usedOf c attributes = c .attributes
-usedOf c namespaces = c .namespaces
-
 -- rule 1: "Counts are within limits"
 unfoldable pub countsWithin : Limits → Counts → Bool
 countsWithin l c =
@@ -137,21 +133,20 @@ resolvedIn d mem h = resolved (d .limits .nodes) (slotsPart d mem) (slotsMade d)
 abbrev pub documentOf : Pool → List (Option Name) → Bool → Document → List ℕ → (Which → List ℕ) → Doc
 documentOf pool names lengths d w arenas =
     let n = d .limits .nodes in
-    record {
-      limits = limitsOf (d .limits);
-      gens = tabulate (generationAt n w) (slotsMade d);
-      free = reverse (tabulate (freeAt n w) (slotsFree d));
-      kinds = tabulate (λ s. kindLoaded (loadedAt n w s)) (slotsMade d);
-      parents = tabulate (λ s. parentLoaded (loadedAt n w s)) (slotsMade d);
-      ranges = λ a. tabulate (λ s. rangeLoaded a (loadedAt n w s)) (slotsMade d);
-      arenas = λ a. arenaOf (limitsOf (d .limits) .entries a) (arenaUsed d a) (arenas a);
-      order = tabulate (orderAt n w) n;
-      current = d .current;
-      pool = pool;
-      names = names;
-      countsFit = countsWithin (limitsOf (d .limits)) (d .counts);
-      lengthsFit = lengths;
-    }
+    columns
+    (limitsOf (d .limits))
+    (tabulate (generationAt n w) (slotsMade d))
+    (reverse (tabulate (freeAt n w) (slotsFree d)))
+    (tabulate (λ s. kindLoaded (loadedAt n w s)) (slotsMade d))
+    (tabulate (λ s. parentLoaded (loadedAt n w s)) (slotsMade d))
+    (λ a. tabulate (λ s. rangeLoaded a (loadedAt n w s)) (slotsMade d))
+    (λ a. arenaOf (limitsOf (d .limits) .entries a) (arenaUsed d a) (arenas a))
+    (tabulate (orderAt n w) n)
+    (d .current)
+    pool
+    names
+    (countsWithin (limitsOf (d .limits)) (d .counts))
+    lengths
 
 abbrev pub decodeWith : Pool → List (Option Name) → Bool → Document → List ℕ → Doc
 decodeWith pool names lengths d mem = documentOf pool names lengths d (slotsPart d mem) (λ a. arenaPart d a mem)

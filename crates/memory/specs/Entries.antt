@@ -1,21 +1,19 @@
 -- An edit of a node's block: the arena's words, and the node's range.
 use mathlib.Core.Path.{_≡_}
-use mathlib.Core.Bool.{true, false}
+use mathlib.Core.Bool.{true}
 use mathlib.Core.List.{List}
 use Prim.Native.Nat.{ℕ}
 use lib.ListN.{length}
 use Rattle.blocks.specs.Arena.{Block, Edit, arenaWords, hasRoom, inserted, removed}
 use Rattle.blocks.specs.Rule.{Inside}
-use Rattle.slots.specs.declared.Range.{Range}
-use Rattle.model.specs.Kinds.{Which, children, attributes, namespaces}
+use Rattle.records.specs.declared.Range.{Range}
+use Rattle.model.specs.Kinds.{Which}
 use Rattle.model.specs.Doc.{liveSlot, kindIn, rangeIn}
 use Rattle.model.specs.Rules.{hasRange}
-use Rattle.model.specs.Edits.{updateWhich}
-use Rattle.memory.specs.declared.layout.Counts.{Counts}
-use Rattle.memory.specs.declared.layout.Document.{Document}
-use Rattle.memory.specs.Layout.{memoryOk}
-use Rattle.memory.specs.Decode.{usedOf, decode}
-use Rattle.memory.specs.Writing.{putArena, putRange, recordWith}
+use Rattle.layout.specs.declared.Document.{Document}
+use Rattle.layout.specs.Layout.{memoryOk}
+use Rattle.memory.specs.Decode.{decode}
+use Rattle.memory.specs.Writing.{putArena, putRange}
 
 -- what an edit of slot s's block asks: test 4, and of rules 1 and 5 that the counts are within the limits and the block lies in the arena with its capacity
 pub record BlockHeld (d : Document) (mem : List ℕ) (w : Which) (s : ℕ) : Type 0 where
@@ -38,32 +36,10 @@ insertion d mem w s at id = inserted (decode d mem .arenas w) (rangeIn (decode d
 unfoldable pub removal : Document → List ℕ → Which → ℕ → ℕ → Edit
 removal d mem w s id = removed (decode d mem .arenas w) (rangeIn (decode d mem) w s) id
 
--- ---- the record and the buffer after it
+-- ---- the buffer after it
 
 abbrev pub rangeFrom : Block → Range
 rangeFrom b = record { start = b .start; len = b .len }
 
 unfoldable pub putBlock : Document → List ℕ → Which → ℕ → Edit → List ℕ
 putBlock d mem w s e = putRange d (putArena d w (arenaWords (e .arena)) mem) s w (rangeFrom (e .block))
-
--- the counts with other lengths of the arenas
-abbrev pub lengthsWith : Counts → ℕ → ℕ → ℕ → Counts
-lengthsWith c k a n = record {
-  slots = c .slots;
-  free = c .free;
-  children = k;
-  attributes = a;
-  namespaces = n;
-  texts = c .texts;
-  freetexts = c .freetexts;
-  textbytes = c .textbytes;
-  names = c .names;
-  namebytes = c .namebytes;
-}
-
-abbrev pub countsWith : Counts → (Which → ℕ) → Counts
-countsWith c used = lengthsWith c (used children) (used attributes) (used namespaces)
-
--- another length of an arena; the order is not current any more
-unfoldable pub withUsed : Document → Which → ℕ → Document
-withUsed d w used = recordWith d (countsWith (d .counts) (updateWhich (usedOf (d .counts)) w used)) false

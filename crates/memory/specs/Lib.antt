@@ -1,4 +1,3 @@
-pub mod Layout
 pub mod Decode
 pub mod Words
 pub mod Stored

@@ -4,7 +4,7 @@ use mathlib.Core.Bool.{false}
 use mathlib.Core.List.{List}
 use Prim.Native.Nat.{ℕ}
 use Rattle.model.specs.Calls.{Call, Answered, isRefusal, step}
-use Rattle.memory.specs.declared.layout.Document.{Document}
+use Rattle.layout.specs.declared.Document.{Document}
 use Rattle.memory.specs.Decode.{decode}
 use Rattle.memory.specs.Undamaged.{Undamaged}
 use Rattle.memory.specs.Step.{Step}

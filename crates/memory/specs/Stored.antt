@@ -4,7 +4,7 @@ use mathlib.Core.List.{List, []}
 use Prim.Native.Nat.{ℕ}
 use Rattle.texts.specs.Words.{textShown}
 use Rattle.names.specs.Words.{partShown}
-use Rattle.memory.specs.declared.layout.Document.{Document}
+use Rattle.layout.specs.declared.Document.{Document}
 use Rattle.memory.specs.Decode.{textLimits, textCounts, textsPart, nameLimits, nameCounts, namesPart}
 
 -- the bytes of a text field; "an empty text .. for a number outside its table or bytes outside their pool"

@@ -6,7 +6,7 @@ use lib.ListN.{getD}
 use Rattle.words.specs.Parts.{part}
 use Rattle.slots.specs.Regions.{recordStart}
 use Rattle.model.specs.Kinds.{Kind, root, element, attribute, text, comment, namespace, instruction, Which, children, attributes, namespaces}
-use Rattle.memory.specs.declared.layout.Document.{Document}
+use Rattle.layout.specs.declared.Document.{Document}
 use Rattle.memory.specs.Decode.{slotsPart}
 
 -- a word of a slot's record

@@ -1,7 +1,7 @@
-// The lent memory of a document: its layout, test 4, and reading and writing steps over the whole buffer.
-pub mod entries;
+// The lent memory of a document: what its words mean, the cuts of its regions, and reading and writing steps over the whole buffer.
+pub mod block;
 pub mod fields;
-pub mod layout;
+pub mod parts;
 pub mod read;
 pub mod stored;
 pub mod write;

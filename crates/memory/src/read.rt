@@ -4,23 +4,24 @@ ghost use mathlib.Core.Bool.{true};
 ghost use Prim.Native.Nat.{_<_};
 ghost use lib.ListN.{length, getD};
 ghost use Rattle.slots.specs.Regions.{generationAt, recordAt, orderAt, keyOf};
-ghost use Rattle.slots.specs.Handles.{wordOf};
+ghost use Rattle.records.specs.Handles.{wordOf};
 ghost use Rattle.model.specs.Kinds.{attributes, namespaces};
 ghost use Rattle.model.specs.Doc.{liveSlot, resolves};
-ghost use Rattle.memory.specs.Layout.{whichOf, limitsOf, memoryOk};
+ghost use Rattle.layout.specs.Layout.{whichOf, limitsOf, memoryOk};
 ghost use Rattle.memory.specs.Decode.{blockOf, elementRange, rangeOf, slotsPart, slotsMade, slotsFree, arenaUsed, arenaIn, loadedAt, resolvedIn, decode};
-use crate::layout::Arena;
-use crate::layout::Document;
-use crate::layout::arena_at;
-use crate::layout::arena_limit;
-use slots::Loaded;
-use slots::Node;
-use slots::NodeData;
-use slots::NodeId;
-use slots::NodeRecord;
-use slots::NodeSlot;
+use layout::Arena;
+use layout::Document;
+use layout::arena_at;
+use layout::arena_limit;
+use records::Loaded;
+use records::Node;
+use records::NodeData;
+use records::NodeId;
+use records::NodeRecord;
+use records::Range;
 use slots::OrderKey;
-use slots::Range;
+use slots::region::SLOT_WORDS;
+use words::NodeSlot;
 
 // The slots made. A count above its limit reads as the limit.
 pub fn made(d: Document) -> usize
@@ -59,7 +60,7 @@ pub fn generation(d: Document, mem: &[u64], slot: NodeSlot) -> u64
 {
     let l = d.limits;
     let n = l.nodes;
-    let end = 15 * n;
+    let end = SLOT_WORDS * n;
     slots::region::generation_at(&mem[0..end], n, slot)
 }
 
@@ -70,7 +71,7 @@ pub fn record_words(d: Document, mem: &[u64], slot: NodeSlot) -> NodeRecord
 {
     let l = d.limits;
     let n = l.nodes;
-    let end = 15 * n;
+    let end = SLOT_WORDS * n;
     slots::region::load_record(&mem[0..end], n, slot)
 }
 
@@ -80,7 +81,7 @@ pub fn load(d: Document, mem: &[u64], slot: NodeSlot) -> Loaded
     ensures { λ r. ⌜ r ≡ loadedAt (d .limits .nodes) (slotsPart d (now (mem .entry))) (slot .0) ⌝ }
 {
     if generation(d, mem, slot) < 4294967296 {
-        slots::decode::node_of(record_words(d, mem, slot))
+        records::decode::node_of(record_words(d, mem, slot))
     } else {
         Loaded::NoNode
     }
@@ -93,7 +94,7 @@ pub fn resolve(d: Document, mem: &[u64], id: NodeId) -> Loaded
 {
     let l = d.limits;
     let n = l.nodes;
-    let end = 15 * n;
+    let end = SLOT_WORDS * n;
     slots::slot::resolve(&mem[0..end], n, made(d), id)
 }
 
@@ -109,7 +110,7 @@ pub fn is_live(d: Document, mem: &[u64], slot: NodeSlot) -> bool
     if word % 2 != 0 {
         return false;
     }
-    slots::decode::is_node(record_words(d, mem, slot))
+    records::decode::is_node(record_words(d, mem, slot))
 }
 
 // Whether a handle resolves, for every handle. No node is built: what is shown of it is read behind this test, word by word.
@@ -185,6 +186,6 @@ pub fn order_key(d: Document, mem: &[u64], slot: NodeSlot) -> OrderKey
 {
     let l = d.limits;
     let n = l.nodes;
-    let end = 15 * n;
+    let end = SLOT_WORDS * n;
     slots::region::order_at(&mem[0..end], n, slot)
 }

@@ -6,20 +6,20 @@ ghost use lib.ListN.{length};
 ghost use Rattle.names.specs.Words.{nameThere};
 ghost use Rattle.model.specs.Kinds.{replaceable};
 ghost use Rattle.model.specs.Doc.{orElse};
-ghost use Rattle.memory.specs.Layout.{memoryOk};
+ghost use Rattle.layout.specs.Layout.{memoryOk};
 ghost use Rattle.memory.specs.Decode.{slotOf, kindOf, textLimits, textCounts, textsPart, nameLimits, nameCounts, namesPart};
 ghost use Rattle.memory.specs.Stored.{textIn, namePart};
-use crate::layout::Document;
-use crate::layout::names_at;
-use crate::layout::texts_at;
+use layout::Document;
+use layout::names_at;
+use layout::texts_at;
 use names::NameCounts;
 use names::NameLimits;
-use slots::Chars;
-use slots::NameId;
-use slots::NodeData;
-use slots::TextSlot;
+use records::Chars;
+use records::NodeData;
 use texts::TextCounts;
 use texts::TextLimits;
+use words::NameId;
+use words::TextSlot;
 
 pub fn text_limits(d: Document) -> TextLimits
     ensures { λ r. ⌜ r ≡ textLimits d ⌝ }
@@ -88,13 +88,7 @@ fn slot_bytes(d: Document, mem: &[u64], slot: TextSlot) -> &[u64]
     requires { ⌜ memoryOk d (length (now mem)) ≡ true ⌝ }
     ensures { λ r. ⌜ now r ≡ textIn d (now (mem .entry)) (some (slot .0)) ⌝ }
 {
-    let s = slot.0;
-    texts::read_text(
-        texts_words(d, mem),
-        text_limits(d),
-        text_counts(d),
-        s as usize,
-    )
+    texts::read_text(texts_words(d, mem), text_limits(d), text_counts(d), slot)
 }
 
 pub fn text_bytes(d: Document, mem: &[u64], text: Chars) -> &[u64]
@@ -126,37 +120,19 @@ pub fn has_name(d: Document, mem: &[u64], number: NameId) -> bool
     requires { ⌜ memoryOk d (length (now mem)) ≡ true ⌝ }
     ensures { λ r. ⌜ r ≡ nameThere (nameLimits d) (nameCounts d) (number .0) (namesPart d (now (mem .entry))) ⌝ }
 {
-    let n = number.0;
-    names::has_name(
-        names_words(d, mem),
-        name_limits(d),
-        name_counts(d),
-        n as usize,
-    )
+    names::has_name(names_words(d, mem), name_limits(d), name_counts(d), number)
 }
 
 pub fn namespace_bytes(d: Document, mem: &[u64], number: NameId) -> &[u64]
     requires { ⌜ memoryOk d (length (now mem)) ≡ true ⌝ }
     ensures { λ r. ⌜ now r ≡ namePart d (now (mem .entry)) (number .0) 0 ⌝ }
 {
-    let n = number.0;
-    names::read_namespace(
-        names_words(d, mem),
-        name_limits(d),
-        name_counts(d),
-        n as usize,
-    )
+    names::read_namespace(names_words(d, mem), name_limits(d), name_counts(d), number)
 }
 
 pub fn local_bytes(d: Document, mem: &[u64], number: NameId) -> &[u64]
     requires { ⌜ memoryOk d (length (now mem)) ≡ true ⌝ }
     ensures { λ r. ⌜ now r ≡ namePart d (now (mem .entry)) (number .0) 1 ⌝ }
 {
-    let n = number.0;
-    names::read_local(
-        names_words(d, mem),
-        name_limits(d),
-        name_counts(d),
-        n as usize,
-    )
+    names::read_local(names_words(d, mem), name_limits(d), name_counts(d), number)
 }

@@ -3,30 +3,18 @@ ghost use mathlib.Core.Path.{_≡_};
 ghost use mathlib.Core.Bool.{true};
 ghost use Prim.Native.Nat.{_<_};
 ghost use lib.ListN.{length};
-ghost use Rattle.memory.specs.Layout.{whichOf, memoryOk};
-ghost use Rattle.memory.specs.Writing.{putWords, withRange, withParent, putNode, putRange, putParent, outdated};
-use crate::layout::Arena;
-use crate::layout::Document;
+ghost use Rattle.layout.specs.Layout.{whichOf, memoryOk};
+ghost use Rattle.memory.specs.Writing.{putWords, withRange, putNode, putRange, putParent};
 use crate::read::record_words;
-use slots::Node;
-use slots::NodeRecord;
-use slots::NodeSlot;
-use slots::Parent;
-use slots::Range;
-use slots::Span;
-
-// The record of a document whose order is not current.
-pub fn outdated(d: Document) -> Document
-    ensures { λ r. ⌜ r ≡ outdated d ⌝ }
-{
-    let limits = d.limits;
-    let counts = d.counts;
-    Document {
-        limits,
-        counts,
-        current: false,
-    }
-}
+use layout::Arena;
+use layout::Document;
+use records::Node;
+use records::NodeRecord;
+use records::Parent;
+use records::Range;
+use records::Span;
+use slots::region::SLOT_WORDS;
+use words::NodeSlot;
 
 // The twelve words of a slot.
 fn put_words(d: Document, mem: &mut [u64], slot: NodeSlot, r: NodeRecord)
@@ -35,7 +23,7 @@ fn put_words(d: Document, mem: &mut [u64], slot: NodeSlot, r: NodeRecord)
 {
     let l = d.limits;
     let n = l.nodes;
-    let end = 15 * n;
+    let end = SLOT_WORDS * n;
     slots::region::store_record(&mut mem[0..end], n, slot, r);
 }
 
@@ -44,7 +32,7 @@ pub fn put_node(d: Document, mem: &mut [u64], slot: NodeSlot, node: Node)
     requires { ⌜ (memoryOk d (length (now mem)) ≡ true) × (slot .0 < d .limits .nodes) ⌝ }
     ensures { λ _. ⌜ now (mem .exit) ≡ putNode d (now (mem .entry)) (slot .0) node ⌝ }
 {
-    let r = slots::encode::record_of(node);
+    let r = records::encode::record_of(node);
     put_words(d, mem, slot, r);
 }
 
@@ -53,9 +41,9 @@ fn with_range(words: NodeRecord, arena: Arena, range: Span) -> NodeRecord
     ensures { λ r. ⌜ r ≡ withRange (whichOf arena) words range ⌝ }
 {
     match arena {
-        Arena::Children => slots::patch::with_children(words, range),
-        Arena::Attributes => slots::patch::with_attributes(words, range),
-        Arena::Namespaces => slots::patch::with_namespaces(words, range),
+        Arena::Children => records::patch::with_children(words, range),
+        Arena::Attributes => records::patch::with_attributes(words, range),
+        Arena::Namespaces => records::patch::with_namespaces(words, range),
     }
 }
 
@@ -65,28 +53,8 @@ pub fn put_range(d: Document, mem: &mut [u64], slot: NodeSlot, arena: Arena, ran
     ensures { λ _. ⌜ now (mem .exit) ≡ putRange d (now (mem .entry)) (slot .0) (whichOf arena) range ⌝ }
 {
     let words = record_words(d, &mem[..], slot);
-    let patched = with_range(words, arena, slots::encode::span_of(range));
+    let patched = with_range(words, arena, records::encode::span_of(range));
     put_words(d, mem, slot, patched);
-}
-
-// The words of a node under another parent.
-fn with_parent(words: NodeRecord, parent: Parent) -> NodeRecord
-    ensures { λ r. ⌜ r ≡ withParent words parent ⌝ }
-{
-    let children = words.children;
-    let attributes = words.attributes;
-    let namespaces = words.namespaces;
-    NodeRecord {
-        kind: words.kind,
-        name: words.name,
-        first: words.first,
-        second: words.second,
-        parent: slots::encode::parent_word(parent),
-        generation: slots::encode::parent_generation(parent),
-        children,
-        attributes,
-        namespaces,
-    }
 }
 
 // Another parent of the node in a slot, or none.
@@ -95,5 +63,5 @@ pub fn put_parent(d: Document, mem: &mut [u64], slot: NodeSlot, parent: Parent)
     ensures { λ _. ⌜ now (mem .exit) ≡ putParent d (now (mem .entry)) (slot .0) parent ⌝ }
 {
     let words = record_words(d, &mem[..], slot);
-    put_words(d, mem, slot, with_parent(words, parent));
+    put_words(d, mem, slot, records::patch::with_parent(words, parent));
 }

@@ -14,11 +14,12 @@ use Rattle.chars.specs.Utf8 as utf8
 use Rattle.chars.specs.Checks.{onText, ofText, checkPrefix, checkText, checkLiteral, isLiteral, checkComment, checkNamespace, checkNamespaceBinding}
 use Rattle.chars.specs.Checks as text
 use Rattle.model.specs.Arguments.{isUtf8, nameCheck, namespaceCheck, bindingCheck, prefixCheck, textCheck, commentCheck, spaceOnly, isXmlns}
+use Rattle.model.specs.Tree as plain
 use Rattle.model.specs.Calls.{guarded}
 use Rattle.model.specs.Examples.{Starred}
 
 pub starred : Starred
-unfolding guarded part put insertAt takes hasRoom inserted removed stored replaced released textsFit interned nameFits setParent setKind rebuildArenas born link unlink freeAll orderOf renewOrder isUtf8 nameCheck namespaceCheck bindingCheck prefixCheck textCheck commentCheck spaceOnly isXmlns text.isUtf8 text.isXmlns ofText onText decode utf8.step utf8.stepAt two three four isNCName classOf within isNameStartChar isNameChar checkText isChar11 checkPrefix checkNamespace checkNamespaceBinding checkComment checkLiteral isLiteral isChar text.isWhiteSpace text.isSpace
+unfolding guarded plain.setList plain.setParent plain.setKind plain.born part put insertAt takes hasRoom inserted removed stored replaced released textsFit interned nameFits setParent setKind rebuildArenas born link unlink freeAll orderOf renewOrder isUtf8 nameCheck namespaceCheck bindingCheck prefixCheck textCheck commentCheck spaceOnly isXmlns text.isUtf8 text.isXmlns ofText onText decode utf8.step utf8.stepAt two three four isNCName classOf within isNameStartChar isNameChar checkText isChar11 checkPrefix checkNamespace checkNamespaceBinding checkComment checkLiteral isLiteral isChar text.isWhiteSpace text.isSpace
 starred = record {
   one-element = (refl, refl, refl);
   one-text = (refl, refl);
@@ -39,6 +40,7 @@ starred = record {
   eleven-undone = refl;
   under-child = refl;
   replaced-value = refl;
+  replaced-plainly = (refl, refl);
   detached-kept = refl;
   order-stale = refl;
 }

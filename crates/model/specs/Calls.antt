@@ -8,7 +8,7 @@ use lib.ListN.{length, getD, take}
 use lib.Dec.{eqb, leb, ltb}
 use Rattle.words.specs.Lists.{find}
 use Rattle.blocks.specs.Arena.{Block, block, hasRoom}
-use Rattle.slots.specs.Handles.{handleIndex}
+use Rattle.records.specs.Handles.{handleIndex}
 use Rattle.texts.specs.Pool.{Pool, storedSlot, stored, replacedSlot, replaced, slotsFor, textsFit}
 use Rattle.words.specs.Pieces.{sameBytes}
 use Rattle.names.specs.Table.{Name, name, sameName, numberOf, interned, nameAt, nameFits}

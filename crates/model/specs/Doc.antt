@@ -7,7 +7,7 @@ use lib.ListN.{length, getD, replicate}
 use lib.Dec.{eqb, leb, ltb}
 use Rattle.words.specs.Lists.{find, joined, tabulate}
 use Rattle.blocks.specs.Arena.{Arena, Block, block, listOf, freshArena}
-use Rattle.slots.specs.Handles.{handleIndex, handleGeneration, wordOf}
+use Rattle.records.specs.Handles.{handleIndex, handleGeneration, wordOf}
 use Rattle.texts.specs.Pool.{Pool, textAt}
 use Rattle.names.specs.Table.{Name, name, nameAt}
 use Rattle.model.specs.Kinds.{Kind, root, Which, children, attributes, namespaces, isElement, mapKind}
@@ -98,6 +98,150 @@ fresh l = record {
   names = [];
   countsFit = true;
   lengthsFit = true;
+}
+
+-- ---- some columns changed, all others as they were. A document is made by these, by `fresh` and by `columns`, and nowhere else: a new column is a line here.
+
+abbrev pub changeSlots : Doc → List ℕ → List ℕ → Doc
+changeSlots d gens free = record {
+  limits = d .limits;
+  gens = gens;
+  free = free;
+  kinds = d .kinds;
+  parents = d .parents;
+  ranges = d .ranges;
+  arenas = d .arenas;
+  order = d .order;
+  current = d .current;
+  pool = d .pool;
+  names = d .names;
+  countsFit = d .countsFit;
+  lengthsFit = d .lengthsFit;
+}
+
+abbrev pub changeNodes : Doc → List (Option (Kind ℕ (Option ℕ))) → List (Option ℕ) → (Which → List Block) → Doc
+changeNodes d kinds parents ranges = record {
+  limits = d .limits;
+  gens = d .gens;
+  free = d .free;
+  kinds = kinds;
+  parents = parents;
+  ranges = ranges;
+  arenas = d .arenas;
+  order = d .order;
+  current = d .current;
+  pool = d .pool;
+  names = d .names;
+  countsFit = d .countsFit;
+  lengthsFit = d .lengthsFit;
+}
+
+abbrev pub changeArenas : Doc → (Which → Arena) → Doc
+changeArenas d arenas = record {
+  limits = d .limits;
+  gens = d .gens;
+  free = d .free;
+  kinds = d .kinds;
+  parents = d .parents;
+  ranges = d .ranges;
+  arenas = arenas;
+  order = d .order;
+  current = d .current;
+  pool = d .pool;
+  names = d .names;
+  countsFit = d .countsFit;
+  lengthsFit = d .lengthsFit;
+}
+
+abbrev pub changeOrder : Doc → List ℕ → Bool → Doc
+changeOrder d order current = record {
+  limits = d .limits;
+  gens = d .gens;
+  free = d .free;
+  kinds = d .kinds;
+  parents = d .parents;
+  ranges = d .ranges;
+  arenas = d .arenas;
+  order = order;
+  current = current;
+  pool = d .pool;
+  names = d .names;
+  countsFit = d .countsFit;
+  lengthsFit = d .lengthsFit;
+}
+
+abbrev pub changeCurrent : Doc → Bool → Doc
+changeCurrent d current = changeOrder d (d .order) current
+
+abbrev pub changePool : Doc → Pool → Doc
+changePool d pool = record {
+  limits = d .limits;
+  gens = d .gens;
+  free = d .free;
+  kinds = d .kinds;
+  parents = d .parents;
+  ranges = d .ranges;
+  arenas = d .arenas;
+  order = d .order;
+  current = d .current;
+  pool = pool;
+  names = d .names;
+  countsFit = d .countsFit;
+  lengthsFit = d .lengthsFit;
+}
+
+abbrev pub changeNames : Doc → List (Option Name) → Doc
+changeNames d names = record {
+  limits = d .limits;
+  gens = d .gens;
+  free = d .free;
+  kinds = d .kinds;
+  parents = d .parents;
+  ranges = d .ranges;
+  arenas = d .arenas;
+  order = d .order;
+  current = d .current;
+  pool = d .pool;
+  names = names;
+  countsFit = d .countsFit;
+  lengthsFit = d .lengthsFit;
+}
+
+abbrev pub changeFits : Doc → Bool → Bool → Doc
+changeFits d countsFit lengthsFit = record {
+  limits = d .limits;
+  gens = d .gens;
+  free = d .free;
+  kinds = d .kinds;
+  parents = d .parents;
+  ranges = d .ranges;
+  arenas = d .arenas;
+  order = d .order;
+  current = d .current;
+  pool = d .pool;
+  names = d .names;
+  countsFit = countsFit;
+  lengthsFit = lengthsFit;
+}
+
+-- a document of all its columns
+abbrev pub columns :
+    Limits → List ℕ → List ℕ → List (Option (Kind ℕ (Option ℕ))) → List (Option ℕ) → (Which → List Block) → (Which → Arena) → List ℕ → Bool → Pool → List (Option Name) → Bool → Bool
+    → Doc
+columns limits gens free kinds parents ranges arenas order current pool names countsFit lengthsFit = record {
+  limits = limits;
+  gens = gens;
+  free = free;
+  kinds = kinds;
+  parents = parents;
+  ranges = ranges;
+  arenas = arenas;
+  order = order;
+  current = current;
+  pool = pool;
+  names = names;
+  countsFit = countsFit;
+  lengthsFit = lengthsFit;
 }
 
 abbrev pub even : ℕ → Bool

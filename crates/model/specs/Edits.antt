@@ -6,11 +6,11 @@ use Prim.Native.Nat.{ℕ, zero, suc, _+_, _%_}
 use lib.ListN.{length, getD, set, drop, replicate}
 use Rattle.words.specs.Lists.{joined, keep}
 use Rattle.blocks.specs.Arena.{Arena, Block, block, Edit, inserted, removed, laid}
-use Rattle.slots.specs.Handles.{handleIndex}
+use Rattle.records.specs.Handles.{handleIndex}
 use Rattle.texts.specs.Pool.{Pool, released}
 use Rattle.names.specs.Table.{Name}
 use Rattle.model.specs.Kinds.{Kind, Which, children, attributes, namespaces, sameWhich, whichOf, isElement, textsOf}
-use Rattle.model.specs.Doc.{Doc, handleWord, rootHandle, noKey, generationAt, liveNodes, kindAt, parentAt, rangeIn, listAt, isNone}
+use Rattle.model.specs.Doc.{Doc, changeSlots, changeNodes, changeArenas, changeOrder, changeCurrent, changePool, changeNames, handleWord, rootHandle, noKey, generationAt, liveNodes, kindAt, parentAt, rangeIn, listAt, isNone}
 
 abbrev pub updateWhich : {A : Type 0} → (Which → A) → Which → A → Which → A
 updateWhich f w v x = cond (sameWhich x w) v (f x)
@@ -19,56 +19,16 @@ updateWhich f w v x = cond (sameWhich x w) v (f x)
 
 -- a block edited: the owner's range and the arena; the order stops being current
 abbrev pub setBlock : Doc → Which → ℕ → Edit → Doc
-setBlock d w i e = record {
-  limits = d .limits;
-  gens = d .gens;
-  free = d .free;
-  kinds = d .kinds;
-  parents = d .parents;
-  ranges = updateWhich (d .ranges) w (set (d .ranges w) i (e .block));
-  arenas = updateWhich (d .arenas) w (e .arena);
-  order = d .order;
-  current = false;
-  pool = d .pool;
-  names = d .names;
-  countsFit = d .countsFit;
-  lengthsFit = d .lengthsFit;
-}
+setBlock d w i e =
+    let ranges = updateWhich (d .ranges) w (set (d .ranges w) i (e .block)) in
+    changeCurrent (changeArenas (changeNodes d (d .kinds) (d .parents) ranges) (updateWhich (d .arenas) w (e .arena))) false
 
 unfoldable pub setParent : Doc → ℕ → Option ℕ → Doc
-setParent d h p = record {
-  limits = d .limits;
-  gens = d .gens;
-  free = d .free;
-  kinds = d .kinds;
-  parents = set (d .parents) (handleIndex h) p;
-  ranges = d .ranges;
-  arenas = d .arenas;
-  order = d .order;
-  current = false;
-  pool = d .pool;
-  names = d .names;
-  countsFit = d .countsFit;
-  lengthsFit = d .lengthsFit;
-}
+setParent d h p = changeCurrent (changeNodes d (d .kinds) (set (d .parents) (handleIndex h) p) (d .ranges)) false
 
 -- a node's kind and the pool changed: a replaced text, which leaves the order current
 unfoldable pub setKind : Doc → ℕ → Kind ℕ (Option ℕ) → Pool → Doc
-setKind d h k p = record {
-  limits = d .limits;
-  gens = d .gens;
-  free = d .free;
-  kinds = set (d .kinds) (handleIndex h) (some k);
-  parents = d .parents;
-  ranges = d .ranges;
-  arenas = d .arenas;
-  order = d .order;
-  current = d .current;
-  pool = p;
-  names = d .names;
-  countsFit = d .countsFit;
-  lengthsFit = d .lengthsFit;
-}
+setKind d h k p = changePool (changeNodes d (set (d .kinds) (handleIndex h) (some k)) (d .parents) (d .ranges)) p
 
 -- ---- slots: "On freeing and on reuse a generation goes up by one, and from 4,294,967,295 to 0."
 
@@ -85,36 +45,14 @@ nextHandle d = nextFrom (d .free) d
 
 -- a new node in no list yet, all its blocks (0, 0) and without a key, with the pool and the names that hold what it shows
 abbrev pub bornFrom : List ℕ → Doc → Kind ℕ (Option ℕ) → Pool → List (Option Name) → Doc
-bornFrom [] d k p n = record {
-  limits = d .limits;
-  gens = d .gens ++ (0 ∷ []);
-  free = [];
-  kinds = d .kinds ++ (some k ∷ []);
-  parents = d .parents ++ (none ∷ []);
-  ranges = λ w. d .ranges w ++ (block 0 0 ∷ []);
-  arenas = d .arenas;
-  order = set (d .order) (length (d .gens)) noKey;
-  current = false;
-  pool = p;
-  names = n;
-  countsFit = d .countsFit;
-  lengthsFit = d .lengthsFit;
-}
-bornFrom (i ∷ l) d k p n = record {
-  limits = d .limits;
-  gens = set (d .gens) i (up (generationAt d i));
-  free = l;
-  kinds = set (d .kinds) i (some k);
-  parents = set (d .parents) i none;
-  ranges = λ w. set (d .ranges w) i (block 0 0);
-  arenas = d .arenas;
-  order = set (d .order) i noKey;
-  current = false;
-  pool = p;
-  names = n;
-  countsFit = d .countsFit;
-  lengthsFit = d .lengthsFit;
-}
+bornFrom [] d k p n =
+    let nodes = changeNodes d (d .kinds ++ (some k ∷ [])) (d .parents ++ (none ∷ [])) (λ w. d .ranges w ++ (block 0 0 ∷ [])) in
+    let slots = changeSlots nodes (d .gens ++ (0 ∷ [])) [] in
+    changeNames (changePool (changeOrder slots (set (d .order) (length (d .gens)) noKey) false) p) n
+bornFrom (i ∷ l) d k p n =
+    let nodes = changeNodes d (set (d .kinds) i (some k)) (set (d .parents) i none) (λ w. set (d .ranges w) i (block 0 0)) in
+    let slots = changeSlots nodes (set (d .gens) i (up (generationAt d i))) l in
+    changeNames (changePool (changeOrder slots (set (d .order) i noKey) false) p) n
 
 unfoldable pub born : Doc → Kind ℕ (Option ℕ) → Pool → List (Option Name) → Doc
 born d k p n = bornFrom (d .free) d k p n
@@ -169,21 +107,8 @@ releasedAll p (t ∷ l) = releasedAll (released p t) l
 
 -- the nodes are freed in this order, each releasing its texts at once
 unfoldable pub freeAll : Doc → List ℕ → Doc
-freeAll d l = record {
-  limits = d .limits;
-  gens = raisedAll (d .gens) l;
-  free = freedAll (d .free) l;
-  kinds = d .kinds;
-  parents = d .parents;
-  ranges = d .ranges;
-  arenas = d .arenas;
-  order = d .order;
-  current = false;
-  pool = releasedAll (d .pool) (joined (λ h. textsOf (kindAt d h)) l);
-  names = d .names;
-  countsFit = d .countsFit;
-  lengthsFit = d .lengthsFit;
-}
+freeAll d l =
+    changePool (changeCurrent (changeSlots d (raisedAll (d .gens) l) (freedAll (d .free) l)) false) (releasedAll (d .pool) (joined (λ h. textsOf (kindAt d h)) l))
 
 -- ---- order: "node, its namespaces, its attributes, then its children's subtrees"
 
@@ -201,21 +126,7 @@ unfoldable pub orderOf : Doc → List ℕ
 orderOf d = keyed (replicate (length (d .gens)) noKey ++ drop (length (d .gens)) (d .order)) 0 (ordered d)
 
 unfoldable pub renewOrder : Doc → Doc
-renewOrder d = record {
-  limits = d .limits;
-  gens = d .gens;
-  free = d .free;
-  kinds = d .kinds;
-  parents = d .parents;
-  ranges = d .ranges;
-  arenas = d .arenas;
-  order = orderOf d;
-  current = true;
-  pool = d .pool;
-  names = d .names;
-  countsFit = d .countsFit;
-  lengthsFit = d .lengthsFit;
-}
+renewOrder d = changeOrder d (orderOf d) true
 
 -- ---- compaction
 
@@ -260,18 +171,4 @@ abbrev pub laying : Doc → Which → Laying
 laying d w = layAll d w (rebuilt d) (layingFrom d w)
 
 unfoldable pub rebuildArenas : Doc → Doc
-rebuildArenas d = record {
-  limits = d .limits;
-  gens = d .gens;
-  free = d .free;
-  kinds = d .kinds;
-  parents = d .parents;
-  ranges = λ w. laying d w .ranges;
-  arenas = λ w. laying d w .arena;
-  order = d .order;
-  current = false;
-  pool = d .pool;
-  names = d .names;
-  countsFit = d .countsFit;
-  lengthsFit = d .lengthsFit;
-}
+rebuildArenas d = changeCurrent (changeArenas (changeNodes d (d .kinds) (d .parents) (λ w. laying d w .ranges)) (λ w. laying d w .arena)) false

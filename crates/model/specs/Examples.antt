@@ -1,4 +1,5 @@
--- The starred bench examples of 01, over the calls on the document, as one list; example 11 as 02 (f) has it; and the fault that the port removes.
+-- The starred bench examples of 01, over the calls on the document, as one list; example 11 as 02 (f) has it; a value replaced, also in the plain tree; and the
+-- fault that the port removes.
 use mathlib.Core.Path.{_≡_}
 use mathlib.Core.Bool.{Bool, true, false}
 use mathlib.Core.Option.{Option, none, some}
@@ -6,10 +7,13 @@ use mathlib.Core.List.{List, [], _∷_, map}
 use Prim.Native.Nat.{ℕ, _+_, _*_}
 use lib.ListN.{length, getD}
 use Rattle.blocks.specs.Arena.{Block, block, capOf}
-use Rattle.model.specs.Kinds.{Kind, namespace, Which, children, attributes, namespaces}
+use Rattle.names.specs.Table.{name}
+use Rattle.model.specs.Kinds.{Kind, attribute, namespace, Which, children, attributes, namespaces}
 use Rattle.model.specs.Doc.{Doc, Limits, fresh, handleWord, rootHandle, rangeIn, resolves, viewAt, listIn}
 use Rattle.model.specs.Edits.{subtree, up}
 use Rattle.model.specs.Arguments.{nameCheck}
+use Rattle.model.specs.Tree.{Tree, seed}
+use Rattle.model.specs.Tree as plain
 use Rattle.model.specs.Calls.{Call, append-element, append-text, append-comment, append-pi, set-text, set-attribute, remove-attribute, declare-namespace, remove, detach, reparent, insert-at, document-order, compact, children-of, attribute-nodes, order-key, Answer, Answered, refused, done, made, listed, keys, key, Run, run}
 
 abbrev pub limits : Limits
@@ -114,6 +118,11 @@ replacedValue =
     ∷ attribute-nodes (h 1 0)
     ∷ []
 
+-- the plain tree after calls whose handles, of generation 0, are births
+abbrev pub plainly : List Call → Tree → Tree
+plainly [] t = t
+plainly (c ∷ cs) t = plainly cs (plain.step c (λ b. b) t .tree)
+
 abbrev pub detachedTree : List Call
 detachedTree =
     append-element rootHandle [] (byte 101)
@@ -179,6 +188,7 @@ pub record Starred : Type 0 where
   pub eleven-undone : viewAt (from declarations .doc) (h 3 0) ≡ some (namespace [] [])
   pub under-child : from underChild .answers ≡ made (h 1 0) ∷ made (h 2 0) ∷ refused 13 ∷ []
   pub replaced-value : from replacedValue .answers ≡ made (h 1 0) ∷ done ∷ done ∷ listed (block 0 1) (h 2 0 ∷ []) ∷ []
+  pub replaced-plainly : (plainly replacedValue seed .births ≡ 3) × (plainly replacedValue seed .kind 2 ≡ attribute (name [] (byte 97)) (byte 119))
   pub detached-kept : from detachedTree .answers ≡ made (h 1 0) ∷ made (h 2 0) ∷ done ∷ done ∷ listed (block 0 1) (h 2 0 ∷ []) ∷ []
   -- removal, then an addition in the same slot: the key is refused until the order is renewed, and then is the new node's
   pub order-stale : from fault .answers

@@ -7,7 +7,6 @@ pub mod Checks
 pub mod Calls
 pub mod Rules
 pub mod Tree
-pub mod Claim
 pub mod Examples
 pub mod RulesTest
 pub mod Resolving

@@ -11,7 +11,7 @@ use Rattle.blocks.specs.Arena.{Block, block}
 use Rattle.blocks.specs.Rule.{BlocksApart}
 use Rattle.texts.specs.Pool.{bytesOf}
 use Rattle.names.specs.Table.{entryBytes}
-use Rattle.slots.specs.Handles.{handleIndex}
+use Rattle.records.specs.Handles.{handleIndex}
 use Rattle.model.specs.Kinds.{Kind, root, Which, children, attributes, namespaces, sameWhich, isElement, isRoot, owns, whichOf, namesOf, textsOf}
 use Rattle.model.specs.Doc.{Doc, rootHandle, generationAt, liveSlot, handleAt, resolves, kindIn, kindAt, parentIn, parentAt, rangeIn, listIn, listAt, even, isSome}
 

@@ -9,7 +9,7 @@ use Rattle.words.specs.Lists.{countOf, all, allBelow, joined}
 use Rattle.blocks.specs.Arena.{Arena, Block, capOf}
 use Rattle.texts.specs.Pool.{bytesOf}
 use Rattle.names.specs.Table.{entryBytes}
-use Rattle.slots.specs.Handles.{handleIndex}
+use Rattle.records.specs.Handles.{handleIndex}
 use Rattle.model.specs.Kinds.{Which, children, attributes, namespaces, sameWhich, isElement, isRoot, owns, whichOf, namesOf}
 use Rattle.model.specs.Doc.{Doc, generationAt, liveSlot, handleAt, resolves, kindIn, kindAt, parentIn, parentAt, listIn, listAt, even, isSome, isNone, anyOption}
 use Rattle.model.specs.Rules.{blockIn, held}
@@ -136,7 +136,12 @@ textsHold d =
 
 -- ---- the eight rules
 
-unfoldable pub rulesHold : Doc → Bool
-rulesHold d =
+unfoldable pub eightHold : Doc → Bool
+eightHold d =
     countsAndFieldsHold d && freeListHolds d && parentsHold d && entriesHold d
     && blocksHold d && parentsEndHolds d && oneRootElementHolds d && textsHold d
+
+-- ---- all rules: one that a request adds is a conjunct behind the eight, here, a field of `Rules`, and a test in `check_structure`
+
+unfoldable pub rulesHold : Doc → Bool
+rulesHold d = eightHold d

@@ -1,5 +1,4 @@
-// What calls refuse with. The document, its calls as functions, the structure rules, the plain tree and the claim about every list of
-// calls are definitions (specs/), proved in proofs/.
+// What calls refuse with. The document, its calls as functions, the structure rules and the plain tree are definitions (specs/), with the bench examples over them.
 ghost use mathlib.Core.Path.{_≡_};
 ghost use Rattle.model.specs.Refusals.{numberOf};
 

@@ -1,5 +1,5 @@
 // A node, with all below it, goes to a list of children.
-ghost use Rattle.slots.specs.Handles.{wordOf};
+ghost use Rattle.records.specs.Handles.{wordOf};
 ghost use Rattle.model.specs.Calls.{reparent, insert-at};
 ghost use Rattle.memory.specs.Undamaged.{Undamaged};
 ghost use Rattle.editing.specs.Contract.{Edits, Answers};
@@ -8,10 +8,10 @@ use editing::admission::admit;
 use editing::answers::DoneAnswer;
 use edits::moves::move_last;
 use edits::moves::move_to;
-use memory::layout::Document;
-use plans::moving::plan_move;
-use plans::verdict::Verdict;
-use slots::NodeId;
+use layout::Document;
+use plans::moves::plan_move;
+use records::NodeId;
+use verdicts::verdict::Verdict;
 
 fn reparent_checked(d: Document, mem: &mut [u64], child: NodeId, parent: NodeId) -> DoneAnswer
     requires { ⌜ Undamaged d (now mem) ⌝ }

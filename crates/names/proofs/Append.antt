@@ -174,7 +174,7 @@ counted-name counts ns lo =
 
 module _ (limits : NameLimits) (counts : NameCounts) (words : List ℕ) (n : Name) (h : TableHeld limits counts words) (k : ℕ) (e : k ≡ numberOf (tableOf limits counts words) n) where
   -- the pair is there: nothing is written
-  pub intern-found : k < counts .names → InternedTo limits counts words words n (record { number = k; counts = counts })
+  pub intern-found : k < counts .names → InternedTo limits counts words words n (record { number = record { 0 = k }; counts = counts })
   intern-found g =
       record { number = e; table = sym (interned-found (tableOf limits counts words) n (omega (arith, table-names limits counts words h))); held = h }
 
@@ -220,7 +220,7 @@ module _ (limits : NameLimits) (counts : NameCounts) (words : List ℕ) (n : Nam
         )
 
     pub intern-new : (after : List ℕ) (more : NameCounts) → (counts .names < limits .names) × (counts .bytes + (length (n .namespace) + length (n .local)) ≤ limits .bytes)
-        → more ≡ oneMore counts n → after ≡ appended limits counts words n → InternedTo limits counts words after n (record { number = k; counts = more })
+        → more ≡ oneMore counts n → after ≡ appended limits counts words n → InternedTo limits counts words after n (record { number = record { 0 = k }; counts = more })
     intern-new after more f p q =
         rw (p, q)
         (record {

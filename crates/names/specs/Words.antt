@@ -81,6 +81,6 @@ appended limits counts words n =
 
 -- what `intern` promises: the number of the pair, and the words of the table after. Bytes beyond those used are left open.
 pub record InternedTo (limits : NameLimits) (counts : NameCounts) (words after : List ℕ) (n : Name) (r : Interned) : Type 0 where
-  pub number : r .number ≡ numberOf (tableOf limits counts words) n
+  pub number : r .number .0 ≡ numberOf (tableOf limits counts words) n
   pub table : tableOf limits (r .counts) after ≡ interned (tableOf limits counts words) n
   pub held : TableHeld limits (r .counts) after

@@ -9,10 +9,11 @@ ghost use Rattle.names.specs.Table.{name, numberOf, interned, nameFits};
 ghost use Rattle.names.specs.Words.{tableOf, TableHeld, oneMore, appended, InternedTo};
 use crate::NameCounts;
 use crate::NameLimits;
+use words::NameId;
 
 // The number of an interned name, and the counts after.
 pub struct Interned {
-    pub number: usize,
+    pub number: NameId,
     pub counts: NameCounts,
 }
 
@@ -34,7 +35,7 @@ fn same_name(
     false
 }
 
-// The number of the first equal pair, or the count where there is none.
+// The number of the first equal pair, or the count where there is none: a count, so no `NameId`.
 pub fn find_name(
     words: &[u64],
     limits: NameLimits,
@@ -107,7 +108,7 @@ fn append_name(
     NameCounts { names, bytes }
 }
 
-// The number of the pair, which is appended where the table lacks it.
+// The number of the pair, which is appended where the table lacks it. The limit is such that a number is of 32 bits.
 pub fn intern(
     words: &mut [u64],
     limits: NameLimits,
@@ -115,11 +116,12 @@ pub fn intern(
     namespace: &[u8],
     local: &[u8],
 ) -> Interned
-    requires { ⌜ TableHeld limits counts (now words) × (nameFits (limits .names) (limits .bytes) (tableOf limits counts (now words)) (name (now namespace) (now local)) ≡ true) ⌝ }
+    requires { ⌜ TableHeld limits counts (now words) × (nameFits (limits .names) (limits .bytes) (tableOf limits counts (now words)) (name (now namespace) (now local)) ≡ true) × (limits .names < 4294967296) ⌝ }
     ensures { λ r. ⌜ InternedTo limits counts (now (words .entry)) (now (words .exit)) (name (now (namespace .entry)) (now (local .entry))) r ⌝ }
 {
-    let number = find_name(&words[..], limits, counts, namespace, local);
-    if number < counts.names {
+    let k = find_name(&words[..], limits, counts, namespace, local);
+    let number = NameId(k as u32);
+    if k < counts.names {
         return Interned { number, counts };
     }
     let after = append_name(words, limits, counts, namespace, local);

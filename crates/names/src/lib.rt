@@ -5,6 +5,7 @@ ghost use Prim.Native.Nat.{_+_, _≤_, _<_};
 ghost use lib.ListN.{length};
 ghost use Rattle.words.specs.Ends.{pieceThere};
 ghost use Rattle.names.specs.Words.{bytesAt, tableOk, partShown, nameThere};
+use words::NameId;
 use words::ends::piece_there;
 
 pub mod interning;
@@ -38,10 +39,18 @@ pub fn check_names(words: &[u64], limits: NameLimits, counts: NameCounts) -> boo
 }
 
 // Part 0 of a name, its namespace, or part 1, its local part; empty for a number outside the table or bytes outside the pool.
-fn read_part(words: &[u64], limits: NameLimits, counts: NameCounts, i: usize, k: usize) -> &[u64]
+fn read_part(
+    words: &[u64],
+    limits: NameLimits,
+    counts: NameCounts,
+    number: NameId,
+    k: usize,
+) -> &[u64]
     requires { ⌜ (length (now words) ≡ bytesAt limits + limits .bytes) × (k ≤ 1) ⌝ }
-    ensures { λ r. ⌜ now r ≡ partShown limits counts i k (now (words .entry)) ⌝ }
+    ensures { λ r. ⌜ now r ≡ partShown limits counts (number .0) k (now (words .entry)) ⌝ }
 {
+    let index = number.0;
+    let i = index as usize;
     let limit = limits.names;
     let n = words::least(counts.names, limit);
     if i < n {
@@ -51,18 +60,23 @@ fn read_part(words: &[u64], limits: NameLimits, counts: NameCounts, i: usize, k:
     &words[..0]
 }
 
-pub fn read_namespace(words: &[u64], limits: NameLimits, counts: NameCounts, i: usize) -> &[u64]
+pub fn read_namespace(
+    words: &[u64],
+    limits: NameLimits,
+    counts: NameCounts,
+    number: NameId,
+) -> &[u64]
     requires { ⌜ length (now words) ≡ bytesAt limits + limits .bytes ⌝ }
-    ensures { λ r. ⌜ now r ≡ partShown limits counts i 0 (now (words .entry)) ⌝ }
+    ensures { λ r. ⌜ now r ≡ partShown limits counts (number .0) 0 (now (words .entry)) ⌝ }
 {
-    read_part(words, limits, counts, i, 0)
+    read_part(words, limits, counts, number, 0)
 }
 
-pub fn read_local(words: &[u64], limits: NameLimits, counts: NameCounts, i: usize) -> &[u64]
+pub fn read_local(words: &[u64], limits: NameLimits, counts: NameCounts, number: NameId) -> &[u64]
     requires { ⌜ length (now words) ≡ bytesAt limits + limits .bytes ⌝ }
-    ensures { λ r. ⌜ now r ≡ partShown limits counts i 1 (now (words .entry)) ⌝ }
+    ensures { λ r. ⌜ now r ≡ partShown limits counts (number .0) 1 (now (words .entry)) ⌝ }
 {
-    read_part(words, limits, counts, i, 1)
+    read_part(words, limits, counts, number, 1)
 }
 
 // Whether piece i and the one behind it are there.
@@ -77,10 +91,12 @@ fn both_there(words: &[u64], count: usize, used: usize, i: usize) -> bool
 }
 
 // Whether there is a name at the number: two words for each of its parts.
-pub fn has_name(words: &[u64], limits: NameLimits, counts: NameCounts, i: usize) -> bool
+pub fn has_name(words: &[u64], limits: NameLimits, counts: NameCounts, number: NameId) -> bool
     requires { ⌜ length (now words) ≡ bytesAt limits + limits .bytes ⌝ }
-    ensures { λ r. ⌜ r ≡ nameThere limits counts i (now (words .entry)) ⌝ }
+    ensures { λ r. ⌜ r ≡ nameThere limits counts (number .0) (now (words .entry)) ⌝ }
 {
+    let index = number.0;
+    let i = index as usize;
     let n = words::least(counts.names, limits.names);
     if i >= n {
         return false;

@@ -8,14 +8,15 @@ use lib.ListN.{length, take}
 use Rattle.model.specs.Doc.{Doc}
 use Rattle.model.specs.Edits.{orderOf, renewOrder}
 use Rattle.model.specs.Calls.{Answered, keys, document-order}
-use Rattle.memory.specs.declared.layout.Document.{Document}
-use Rattle.memory.specs.Layout.{memoryOk}
+use Rattle.layout.specs.declared.Document.{Document}
+use Rattle.layout.specs.Layout.{memoryOk}
 use Rattle.memory.specs.Decode.{decode}
 use Rattle.memory.specs.Step.{Step}
+use Rattle.layout.specs.Record.{renewed}
 use Rattle.reading.specs.Answers.{orderShown}
 use Rattle.reading.proofs.Orders.{order-shown}
 use Rattle.edits.proofs.Composed.{step-as}
-use Rattle.walks.specs.Order.{putOrders, renewed}
+use Rattle.walks.specs.Order.{putOrders}
 use Rattle.walks.proofs.Cleared.{renewed-step}
 use Rattle.editing.specs.Contract.{Answers}
 use Rattle.editing.proofs.Editing.{performed-answers}

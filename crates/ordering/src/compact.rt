@@ -3,15 +3,15 @@ ghost use mathlib.Core.Path.{_≡_};
 ghost use mathlib.Core.Bool.{true};
 ghost use lib.ListN.{length, replicate};
 ghost use Rattle.model.specs.Calls.{compact};
-ghost use Rattle.memory.specs.Layout.{buffersOk};
+ghost use Rattle.layout.specs.Layout.{buffersOk};
 ghost use Rattle.memory.specs.Undamaged.{Undamaged};
 ghost use Rattle.editing.specs.Contract.{Edits, Answers};
 ghost use Rattle.editing.specs.Answers.{ofDone, afterDone};
 use compaction::rebuild::do_compact;
 use editing::admission::admit;
 use editing::answers::DoneAnswer;
-use memory::layout::Document;
-use plans::verdict::Verdict;
+use layout::Document;
+use verdicts::verdict::Verdict;
 
 // The stack of the walks stood in scratch, which is cleared again.
 fn compact_checked(d: Document, mem: &mut [u64], scratch: &mut [u64]) -> DoneAnswer

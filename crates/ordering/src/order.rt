@@ -3,14 +3,14 @@ ghost use mathlib.Core.Path.{_≡_};
 ghost use mathlib.Core.Bool.{true};
 ghost use lib.ListN.{length, replicate};
 ghost use Rattle.model.specs.Calls.{document-order};
-ghost use Rattle.memory.specs.Layout.{buffersOk};
+ghost use Rattle.layout.specs.Layout.{buffersOk};
 ghost use Rattle.memory.specs.Undamaged.{Undamaged};
 ghost use Rattle.editing.specs.Contract.{Edits, Answers};
 ghost use Rattle.editing.specs.Answers.{ofOrder, afterOrder};
 use editing::admission::admit;
 use editing::answers::OrderAnswer;
-use memory::layout::Document;
-use plans::verdict::Verdict;
+use layout::Document;
+use verdicts::verdict::Verdict;
 use walks::order::renew_order;
 
 // An order that is current stays. Scratch is all zero before and after.

@@ -1,4 +1,5 @@
 // What a line says. A line that is not exactly one of the format is no call.
+use layout::Limits;
 use lines::read::Bytes;
 use lines::read::Handle;
 use lines::read::Number;
@@ -9,8 +10,7 @@ use lines::read::read_handle;
 use lines::read::read_number;
 use lines::read::read_optional;
 use lines::read::word;
-use memory::layout::Limits;
-use slots::NodeId;
+use records::NodeId;
 
 // Calls and other lines of one word.
 pub enum Alone {

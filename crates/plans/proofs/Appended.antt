@@ -8,12 +8,11 @@ use Prim.Native.Nat.{ℕ}
 use native.Mathlib.Omega.{arith}
 use lib.Dec.{eqb}
 use borrow.Author.Tests.{eqb-true}
-use Rattle.model.specs.Kinds.{Which, isRoot}
+use Rattle.model.specs.Kinds.{isRoot}
 use Rattle.model.specs.Doc.{Doc, resolves, nodeAt, viewAt, anyOption}
 use Rattle.model.specs.Arguments.{first, notUtf8, commentCheck, instructionCheck, nameCheck, namespaceCheck, refuseIf}
 use Rattle.model.specs.Checks.{View, container, textUnder, checkAppendText, checkAppendComment, checkAppendPi, checkAppendElement}
-use Rattle.model.specs.Calls.{fullUnless, nodeFits}
-use Rattle.model.proofs.Guards.{first-zero}
+use Rattle.laws.proofs.Guards.{first-zero}
 
 -- a check with this test in it was passed: the handle resolves
 module _ (D : Doc) (h : ℕ) where
@@ -53,14 +52,3 @@ module _ (u x : Bool) (e : u ≡ x) where
 
   pub no-second-root : u ≡ false → (y : Bool) → 0 ≡ refuseIf (x && y) 12
   no-second-root h y = sym (rw (← e, h))
-
--- Full, of a node with what else it takes
-module _ (D : Doc) (w : Which) (h : ℕ) (live : resolves D h ≡ true) (t x : Bool) (e : t ≡ x) where
-  pub fits-both : t ≡ true → (u : Bool) → u ≡ (resolves D h && nodeFits D w h) → (v : ℕ) → v ≡ fullUnless u → v ≡ fullUnless (x && nodeFits D w h)
-  fits-both k u q v s =
-      let a : u ≡ nodeFits D w h = rw live at q in
-      let b : (x && nodeFits D w h) ≡ nodeFits D w h = rw (sym e ∙ k) in
-      s ∙ ap fullUnless (a ∙ sym b)
-
-  pub fits-neither : t ≡ false → (v : ℕ) → v ≡ fullUnless false → v ≡ fullUnless (x && nodeFits D w h)
-  fits-neither k v s = s ∙ sym (rw (← e, k))

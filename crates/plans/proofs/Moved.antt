@@ -4,9 +4,9 @@ use mathlib.Core.Path.{_≡_, refl, sym, ap, _∙_}
 use mathlib.Core.Bool.{Bool, true, false, not, _&&_, cond}
 use mathlib.Core.Option.{Option, none, some}
 use mathlib.Core.List.{List}
-use Prim.Native.Nat.{ℕ, _+_, _-_, _<_}
+use Prim.Native.Nat.{ℕ, _<_}
 use native.Mathlib.Omega.{arith}
-use lib.ListN.{length, take, drop, getD, set}
+use lib.ListN.{length, getD, set}
 use lib.Seq.{getD-set-same, getD-set-other}
 use lib.Dec.{eqb}
 use borrow.Author.Tests.{eqb-true}
@@ -18,18 +18,18 @@ use Rattle.chars.specs.Productions.{isChar11}
 use Rattle.chars.specs.Utf8 as utf8
 use Rattle.chars.specs.Checks.{numberOf, checked, tested, onText, ofText, checkText}
 use Rattle.chars.specs.Checks as text
-use Rattle.blocks.specs.Arena.{Arena, Block, block, hasRoom, removed, arenaOf}
+use Rattle.blocks.specs.Arena.{Arena, Block, block, hasRoom, removed}
 use Rattle.blocks.specs.Answer.{hasRoomAfterRemoval}
 use Rattle.blocks.specs.Rule.{Inside, Apart}
 use Rattle.blocks.proofs.Removal.{room-removed, room-other}
-use Rattle.slots.specs.Handles.{wordOf, handleIndex}
-use Rattle.slots.specs.declared.NodeId.{NodeId}
-use Rattle.slots.specs.declared.Chars.{Chars}
-use Rattle.slots.specs.declared.NodeData.{NodeData}
-use Rattle.slots.specs.declared.NodeData.the-variants as given
-use Rattle.slots.specs.declared.Node.{Node}
-use Rattle.slots.specs.declared.Loaded.the-variants.{Found, NoNode}
-use Rattle.slots.proofs.Handles.{handleIndex-wordOf}
+use Rattle.records.specs.Handles.{wordOf, handleIndex}
+use Rattle.records.specs.declared.NodeId.{NodeId}
+use Rattle.records.specs.declared.Chars.{Chars}
+use Rattle.records.specs.declared.NodeData.{NodeData}
+use Rattle.records.specs.declared.NodeData.the-variants as given
+use Rattle.records.specs.declared.Node.{Node}
+use Rattle.records.specs.declared.Loaded.the-variants.{Found, NoNode}
+use Rattle.records.proofs.Handles.{handleIndex-wordOf}
 use Rattle.names.specs.Table.{Name}
 use Rattle.model.specs.Kinds.{Kind, root, element, attribute, text, comment, namespace, instruction, Which, children, whichOf, isElement, isRoot, childKind, textOf, mapKind}
 use Rattle.model.specs.Doc.{Doc, resolves, liveSlot, kindAt, parentAt, rangeIn, pairAt, bytesAt, nodeAt, viewAt, anyOption, mapOption, onPath}
@@ -38,15 +38,13 @@ use Rattle.model.specs.Rules.{Shape, Rules, blockIn}
 use Rattle.model.specs.Arguments.{refuseIf, first, isUtf8, textCheck, spaceOnly}
 use Rattle.model.specs.Checks.{View, container, aChild, movedText, storedText, checkMove}
 use Rattle.model.specs.Calls.{roomFits, rootTaken}
-use Rattle.model.proofs.Basics.{live-below}
-use Rattle.model.proofs.Guards.{first-zero}
-use Rattle.memory.specs.declared.layout.Document.{Document}
-use Rattle.memory.specs.Layout.{limitsOf, entriesOf, arenaAt}
-use Rattle.memory.specs.Decode.{slotOf, kindOf, arenaUsed, arenaIn, resolvedIn, poolIn, namesIn, lengthsAdd, decode}
+use Rattle.laws.proofs.Basics.{live-below}
+use Rattle.laws.proofs.Guards.{first-zero}
+use Rattle.layout.specs.declared.Document.{Document}
+use Rattle.memory.specs.Decode.{slotOf, kindOf, resolvedIn, poolIn, namesIn, lengthsAdd, decode}
 use Rattle.memory.specs.Undamaged.{Undamaged}
 use Rattle.memory.proofs.Shaped.{shape}
-use Rattle.memory.proofs.Arenas.{arena-lent}
-use Rattle.plans.proofs.Viewed.{child-kind, view-found, view-stale}
+use Rattle.lookup.proofs.Viewed.{child-kind, view-found, view-stale}
 use Rattle.plans.proofs.Appended.{live-accepted}
 
 -- ---- the text
@@ -157,11 +155,6 @@ module _ (D : Doc) (c p v : ℕ) (t : Bool) (q : t ≡ eqb v 0) (k : t ≡ true)
       (live-accepted D p container refl v t (aChild (viewAt D c)) rest e q k, live-child, sym w ∙ y)
 
 -- ---- Full
-
--- what the block editor tells of the children's arena, lent
-pub left-told : (d : Document) (mem : List ℕ) (limit start used s n id : ℕ) → limit ≡ entriesOf (d .limits) children → start ≡ arenaAt (limitsOf (d .limits)) children → used ≡ arenaUsed d children
-    → (r : Bool) → r ≡ hasRoomAfterRemoval (arenaOf limit used (take (start + (limit + limit) - start) (drop start mem))) (block s n) id → r ≡ hasRoomAfterRemoval (arenaIn d children mem) (block s n) id
-left-told d mem limit start used s n id el es eu r e = e ∙ rw (arena-lent d children mem limit start el es, el, eu)
 
 module _ (D : Doc) (sh : Shape D) (R : Rules D) (c p : ℕ) where
   abbrev A : Arena

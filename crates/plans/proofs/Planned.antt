@@ -8,9 +8,9 @@ use Prim.Native.Nat.{ℕ}
 use lib.ListN.{length}
 use lib.Dec.{eqb}
 use borrow.Author.Tests.{eqb-true, eq-eqb}
-use Rattle.slots.specs.Handles.{wordOf, idOf}
-use Rattle.slots.specs.declared.NodeId.{NodeId}
-use Rattle.slots.proofs.Handles.{wordOf-idOf}
+use Rattle.records.specs.Handles.{wordOf, idOf}
+use Rattle.records.specs.declared.NodeId.{NodeId}
+use Rattle.records.proofs.Handles.{wordOf-idOf}
 use Rattle.texts.specs.Pool.{slotsFor}
 use Rattle.names.specs.Table.{Name, name}
 use Rattle.model.specs.Kinds.{attributes, namespaces}
@@ -19,15 +19,15 @@ use Rattle.model.specs.Rules.{Rules}
 use Rattle.model.specs.Arguments.{refuseIf, first, notUtf8, nameCheck, namespaceCheck, textCheck, isXmlns}
 use Rattle.model.specs.Checks.{anElement, isEmpty, checkSetAttribute, checkRemoveAttribute, declarationCheck, checkDeclareNamespace}
 use Rattle.model.specs.Calls.{set-attribute, remove-attribute, declare-namespace, fullUnless, nodeFits, textFits, nameFitsIn, twoFit, replacementFits, replaceableAt, findAttribute, findNamespace, setAttributeFound, declareNamespaceFound, removeAttributeFound, step}
-use Rattle.model.proofs.Guards.{first-zero, first-assoc}
-use Rattle.plans.specs.declared.search.Listed.{Listed}
-use Rattle.plans.specs.declared.search.Listed.the-variants.{At, Nowhere}
-use Rattle.plans.specs.Listed.{listedWord}
-use Rattle.plans.specs.Verdicts.{refusalNumber}
-use Rattle.plans.proofs.Verdicts.{refused-before, refused-twice, accepted-before}
+use Rattle.laws.proofs.Guards.{first-zero, first-assoc}
+use Rattle.lookup.specs.declared.search.Listed.{Listed}
+use Rattle.lookup.specs.declared.search.Listed.the-variants.{At, Nowhere}
+use Rattle.lookup.specs.Listed.{listedWord}
+use Rattle.verdicts.specs.Verdicts.{refusalNumber}
+use Rattle.verdicts.proofs.Verdicts.{refused-before, refused-twice, accepted-before}
 use Rattle.plans.proofs.Appended.{live-accepted}
-use Rattle.plans.proofs.Found.{found-attribute, found-namespace}
-use Rattle.plans.proofs.Refusing.{number-first, number-guarded, first-none}
+use Rattle.lookup.proofs.Found.{found-attribute, found-namespace}
+use Rattle.verdicts.proofs.Refusing.{number-first, number-guarded, first-none}
 
 -- ---- Full, of two needs
 

@@ -13,15 +13,15 @@ use borrow.Author.Tests.{eqb-true}
 use Rattle.words.specs.declared.ends.Place.{Place}
 use Rattle.words.specs.Ends.{lengthOf}
 use Rattle.words.proofs.Tests.{and-left}
-use Rattle.slots.specs.Handles.{wordOf, handleIndex}
-use Rattle.slots.specs.declared.NodeId.{NodeId}
-use Rattle.slots.specs.declared.Parent.{Parent}
-use Rattle.slots.specs.declared.Parent.the-variants.{None, Of}
-use Rattle.slots.specs.declared.Chars.{Chars}
-use Rattle.slots.specs.declared.Chars.the-variants.{Empty, Expanded}
-use Rattle.slots.specs.declared.TextSlot.{TextSlot}
-use Rattle.slots.specs.declared.Node.{Node}
-use Rattle.slots.specs.declared.Loaded.the-variants.{Found, NoNode}
+use Rattle.records.specs.Handles.{wordOf, handleIndex}
+use Rattle.records.specs.declared.NodeId.{NodeId}
+use Rattle.records.specs.declared.Parent.{Parent}
+use Rattle.records.specs.declared.Parent.the-variants.{None, Of}
+use Rattle.records.specs.declared.Chars.{Chars}
+use Rattle.records.specs.declared.Chars.the-variants.{Empty, Expanded}
+use Rattle.words.specs.declared.TextSlot.{TextSlot}
+use Rattle.records.specs.declared.Node.{Node}
+use Rattle.records.specs.declared.Loaded.the-variants.{Found, NoNode}
 use Rattle.texts.specs.Pool.{Pool, slotsFor, textAt}
 use Rattle.texts.specs.Words.{poolOf, placeShown, countsFit}
 use Rattle.texts.specs.declared.TextLimits.{TextLimits}
@@ -35,12 +35,12 @@ use Rattle.model.specs.Rules.{Rules}
 use Rattle.model.specs.Arguments.{first, notUtf8}
 use Rattle.model.specs.Checks.{aText, textUnder, checkSetText}
 use Rattle.model.specs.Calls.{fullUnless, underRoot, textFits, replacementFits, replaceableAt}
-use Rattle.model.proofs.Guards.{first-zero}
-use Rattle.memory.specs.declared.layout.Document.{Document}
+use Rattle.laws.proofs.Guards.{first-zero}
+use Rattle.layout.specs.declared.Document.{Document}
 use Rattle.memory.specs.Decode.{slotOf, kindOf, handleOf, textLimits, textCounts, textsPart, resolvedIn, decode}
 use Rattle.memory.specs.Undamaged.{Undamaged}
-use Rattle.plans.proofs.Viewed.{root-kind, kindAt-found, resolves-stale}
-use Rattle.plans.proofs.Texts.{counted, pool-same, text-fits}
+use Rattle.lookup.proofs.Viewed.{root-kind, kindAt-found, resolves-stale}
+use Rattle.room.proofs.Texts.{counted, pool-same, text-fits}
 
 -- ---- the parent
 

@@ -1,16 +1,7 @@
 // The plans of the editing calls: they only read, and decide every refusal, Full last, before a word is written.
-pub mod appending;
-pub mod arguments;
-pub mod finding;
-pub mod full;
+pub mod appends;
 pub mod listing;
 pub mod lists;
-pub mod moving;
-pub mod paths;
-pub mod removing;
-pub mod root;
-pub mod search;
+pub mod moves;
+pub mod removals;
 pub mod setting;
-mod stored;
-pub mod verdict;
-pub mod views;

@@ -2,32 +2,32 @@
 ghost use mathlib.Core.Path.{_≡_};
 ghost use mathlib.Core.Bool.{true};
 ghost use mathlib.Core.List.{[], _∷_};
-ghost use Rattle.slots.specs.Handles.{wordOf};
+ghost use Rattle.records.specs.Handles.{wordOf};
 ghost use Rattle.names.specs.Table.{name};
 ghost use Rattle.model.specs.Doc.{resolves, viewAt, isSome};
 ghost use Rattle.model.specs.Arguments.{notUtf8};
 ghost use Rattle.model.specs.Checks.{anElement};
 ghost use Rattle.model.specs.Calls.{set-attribute, remove-attribute, declare-namespace, step, findAttribute, findNamespace, setAttributeFound, declareNamespaceFound};
 ghost use Rattle.memory.specs.Decode.{decode};
-ghost use Rattle.plans.specs.Listed.{listedWord};
-ghost use Rattle.plans.specs.Verdicts.{verdictNumber, refusalNumber};
+ghost use Rattle.lookup.specs.Listed.{listedWord};
+ghost use Rattle.verdicts.specs.Verdicts.{verdictNumber, refusalNumber};
 ghost use Rattle.memory.specs.Undamaged.{Undamaged};
-use crate::arguments::check_attribute;
-use crate::arguments::three_not_utf8;
-use crate::finding::find_attribute;
-use crate::finding::find_namespace;
 use crate::lists::check_declare_namespace;
 use crate::lists::check_remove_attribute;
 use crate::lists::new_attribute_fits;
 use crate::lists::new_namespace_fits;
-use crate::search::Listed;
 use crate::setting::replacing_fits;
-use crate::verdict::Verdict;
-use crate::verdict::first;
-use crate::verdict::is_accepted;
-use crate::views::an_element;
-use memory::layout::Document;
-use slots::NodeId;
+use layout::Document;
+use lookup::finding::find_attribute;
+use lookup::finding::find_namespace;
+use lookup::search::Listed;
+use lookup::views::an_element;
+use records::NodeId;
+use verdicts::arguments::check_attribute;
+use verdicts::arguments::three_not_utf8;
+use verdicts::verdict::Verdict;
+use verdicts::verdict::first;
+use verdicts::verdict::is_accepted;
 
 // Found is Nowhere where a check refuses before the search.
 pub struct Planned {
@@ -59,7 +59,7 @@ fn attribute_fits(
     ensures { λ r. ⌜ verdictNumber r ≡ refusalNumber (setAttributeFound (listedWord found) (decode d (now (mem .entry))) (wordOf element) (name (now (namespace .entry)) (now (local .entry))) (now (value .entry)) .answer) ⌝ }
 {
     match found {
-        Listed::At(word) => replacing_fits(d, mem, slots::handle::id_of(word), value),
+        Listed::At(word) => replacing_fits(d, mem, records::handle::id_of(word), value),
         Listed::Nowhere => new_attribute_fits(d, mem, element, namespace, local, value),
     }
 }
@@ -129,7 +129,7 @@ fn namespace_fits(
     ensures { λ r. ⌜ verdictNumber r ≡ refusalNumber (declareNamespaceFound (listedWord found) (decode d (now (mem .entry))) (wordOf element) (now (prefix .entry)) (now (uri .entry)) .answer) ⌝ }
 {
     match found {
-        Listed::At(word) => replacing_fits(d, mem, slots::handle::id_of(word), uri),
+        Listed::At(word) => replacing_fits(d, mem, records::handle::id_of(word), uri),
         Listed::Nowhere => new_namespace_fits(d, mem, element, prefix, uri),
     }
 }

@@ -2,31 +2,31 @@
 ghost use mathlib.Core.Path.{_≡_};
 ghost use mathlib.Core.Bool.{true, _&&_};
 ghost use lib.ListN.{length};
-ghost use Rattle.slots.specs.Handles.{wordOf};
+ghost use Rattle.records.specs.Handles.{wordOf};
 ghost use Rattle.texts.specs.Pool.{slotsFor};
 ghost use Rattle.names.specs.Table.{name};
 ghost use Rattle.model.specs.Kinds.{attributes, namespaces};
 ghost use Rattle.model.specs.Doc.{resolves, viewAt};
 ghost use Rattle.model.specs.Checks.{checkRemoveAttribute, checkDeclareNamespace};
 ghost use Rattle.model.specs.Calls.{fullUnless, textFits, twoFit, nameFitsIn, nodeFits};
-ghost use Rattle.memory.specs.Layout.{memoryOk};
+ghost use Rattle.layout.specs.Layout.{memoryOk};
 ghost use Rattle.memory.specs.Decode.{decode};
-ghost use Rattle.plans.specs.Verdicts.{verdictNumber};
+ghost use Rattle.verdicts.specs.Verdicts.{verdictNumber};
 ghost use Rattle.memory.specs.Undamaged.{Undamaged};
-use crate::arguments::check_declaration;
-use crate::arguments::two_not_utf8;
-use crate::full::name_fits;
-use crate::full::node_fits;
-use crate::full::text_node_fits;
-use crate::full::two_fit;
-use crate::verdict::Verdict;
-use crate::verdict::first;
-use crate::verdict::full_unless;
-use crate::verdict::is_accepted;
-use crate::views::an_element;
-use memory::layout::Arena;
-use memory::layout::Document;
-use slots::NodeId;
+use layout::Arena;
+use layout::Document;
+use lookup::views::an_element;
+use records::NodeId;
+use room::full::name_fits;
+use room::full::node_fits;
+use room::full::text_node_fits;
+use room::full::two_fit;
+use verdicts::arguments::check_declaration;
+use verdicts::arguments::two_not_utf8;
+use verdicts::verdict::Verdict;
+use verdicts::verdict::first;
+use verdicts::verdict::full_unless;
+use verdicts::verdict::is_accepted;
 
 pub fn check_remove_attribute(
     d: Document,

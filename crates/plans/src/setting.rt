@@ -4,35 +4,35 @@ ghost use mathlib.Core.Bool.{true};
 ghost use mathlib.Core.Option.{some};
 ghost use Prim.Native.Nat.{_≤_};
 ghost use lib.ListN.{length};
-ghost use Rattle.slots.specs.Handles.{wordOf};
+ghost use Rattle.records.specs.Handles.{wordOf};
 ghost use Rattle.model.specs.Doc.{resolves, viewAt, bytesAt};
 ghost use Rattle.model.specs.Checks.{checkSetText};
 ghost use Rattle.model.specs.Calls.{set-text, step, fullUnless, underRoot, replacementFits, replaceableAt};
 ghost use Rattle.memory.specs.Decode.{slotOf, decode};
-ghost use Rattle.plans.specs.Verdicts.{verdictNumber, refusalNumber};
+ghost use Rattle.verdicts.specs.Verdicts.{verdictNumber, refusalNumber};
 ghost use Rattle.memory.specs.Undamaged.{Undamaged};
-use crate::arguments::not_utf8;
-use crate::arguments::text_under;
-use crate::full::text_fits;
-use crate::full::texts_fit;
-use crate::paths::parent_of;
-use crate::verdict::Verdict;
-use crate::verdict::first;
-use crate::verdict::full_unless;
-use crate::verdict::is_accepted;
-use crate::views::a_text;
-use crate::views::is_root;
-use memory::layout::Document;
+use layout::Document;
+use lookup::paths::parent_of;
+use lookup::views::a_text;
+use lookup::views::is_root;
 use memory::read::resolve;
 use memory::stored::text_counts;
 use memory::stored::text_field;
 use memory::stored::text_limits;
 use memory::stored::texts_words;
-use slots::Chars;
-use slots::Loaded;
-use slots::NodeId;
-use slots::Parent;
-use slots::TextSlot;
+use records::Chars;
+use records::Loaded;
+use records::NodeId;
+use records::Parent;
+use room::full::text_fits;
+use room::full::texts_fit;
+use verdicts::arguments::not_utf8;
+use verdicts::arguments::text_under;
+use verdicts::verdict::Verdict;
+use verdicts::verdict::first;
+use verdicts::verdict::full_unless;
+use verdicts::verdict::is_accepted;
+use words::TextSlot;
 
 // Whether a live node's parent is the Root.
 pub fn under_root(d: Document, mem: &[u64], id: NodeId) -> bool
@@ -40,7 +40,7 @@ pub fn under_root(d: Document, mem: &[u64], id: NodeId) -> bool
     requires { ⌜ resolves (decode d (now mem)) (wordOf id) ≡ true ⌝ }
     ensures { λ r. ⌜ r ≡ underRoot (decode d (now (mem .entry))) (wordOf id) ⌝ }
 {
-    let word = slots::handle::word_of(id);
+    let word = records::handle::word_of(id);
     match parent_of(d, mem, word) {
         Parent::None => false,
         Parent::Of(parent) => is_root(d, mem, parent),
@@ -64,13 +64,7 @@ fn text_length(d: Document, mem: &[u64], slot: TextSlot) -> usize
     requires { ⌜ Undamaged d (now mem) ⌝ }
     ensures { λ r. ⌜ (r ≡ length (bytesAt (decode d (now (mem .entry))) (some (slot .0)))) × (r ≤ d .counts .textbytes) ⌝ }
 {
-    let number = slot.0;
-    let place = texts::text_place(
-        texts_words(d, mem),
-        text_limits(d),
-        text_counts(d),
-        number as usize,
-    );
+    let place = texts::text_place(texts_words(d, mem), text_limits(d), text_counts(d), slot);
     place.len
 }
 

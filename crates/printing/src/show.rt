@@ -5,8 +5,8 @@ use crate::sink::put_handles;
 use crate::sink::put_hex;
 use crate::sink::put_number;
 use crate::sink::put_numbers;
-use memory::layout::Arena;
-use memory::layout::Document;
+use layout::Arena;
+use layout::Document;
 use model::Refusal;
 use reading::answers::KeyAnswer;
 use reading::answers::KindAnswer;
@@ -16,11 +16,11 @@ use reading::answers::NodeAnswer;
 use reading::answers::NodesAnswer;
 use reading::answers::RootAnswer;
 use reading::answers::TruthAnswer;
-use slots::Chars;
-use slots::NameId;
-use slots::NodeData;
-use slots::NodeId;
-use slots::Range;
+use records::Chars;
+use records::NodeData;
+use records::NodeId;
+use records::Range;
+use words::NameId;
 
 pub fn refused(out: &mut [u8], at: usize, why: Refusal) -> usize {
     let mark = put(out, at, b"! ");

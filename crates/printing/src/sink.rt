@@ -1,5 +1,5 @@
 // What waits to be written: the bytes before index at in a lent buffer. Each function answers where what waits then ends.
-use slots::NodeId;
+use records::NodeId;
 
 pub fn flush(out: &[u8], at: usize) {
     if at <= out.len() {
@@ -71,7 +71,7 @@ pub fn put_handles(out: &mut [u8], at: usize, words: &[u64]) -> usize {
     let mut k = 0;
     while k < words.len() {
         let space = put(out, next, b" ");
-        next = put_handle(out, space, slots::handle::id_of(words[k]));
+        next = put_handle(out, space, records::handle::id_of(words[k]));
         k += 1;
     }
     next
@@ -90,7 +90,7 @@ pub fn put_joined(out: &mut [u8], at: usize, words: &[u64]) -> usize {
     let mut k = 0;
     while k < words.len() {
         let comma = put_comma(out, next, k);
-        next = put_handle(out, comma, slots::handle::id_of(words[k]));
+        next = put_handle(out, comma, records::handle::id_of(words[k]));
         k += 1;
     }
     next

@@ -1,4 +1,3 @@
-pub mod Passes
 pub mod Rules
 pub mod Verdicts
 pub mod Spelling

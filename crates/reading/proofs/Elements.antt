@@ -10,13 +10,13 @@ use Rattle.words.specs.Parts.{part}
 use Rattle.words.specs.Lists.{find}
 use Rattle.words.proofs.Searches.{find-here, find-on, find-end}
 use Rattle.blocks.specs.Arena.{Block, listOf}
-use Rattle.slots.specs.Handles.{wordOf, idOf}
-use Rattle.slots.specs.declared.NodeId.{NodeId}
-use Rattle.slots.proofs.Handles.{wordOf-idOf}
+use Rattle.records.specs.Handles.{wordOf, idOf}
+use Rattle.records.specs.declared.NodeId.{NodeId}
+use Rattle.records.proofs.Handles.{wordOf-idOf}
 use Rattle.model.specs.Kinds.{children}
 use Rattle.model.specs.Doc.{rootHandle, shownBlock, showsElement}
 use Rattle.model.specs.Calls.{Answered, node, step, root-element}
-use Rattle.memory.specs.declared.layout.Document.{Document}
+use Rattle.layout.specs.declared.Document.{Document}
 use Rattle.memory.specs.Decode.{arenaIn, decode}
 
 module _ (p : ℕ → Bool) (l : List ℕ) (s n k : ℕ) (inv : find p (part s n l) ≡ find p (part (s + k) (n - k) l)) where

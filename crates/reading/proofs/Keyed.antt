@@ -9,21 +9,21 @@ use native.Mathlib.Omega.{arith}
 use lib.ListN.{getD}
 use lib.Dec.{ltb}
 use Rattle.words.proofs.Lists.{getD-tabulate}
-use Rattle.slots.specs.Handles.{wordOf, handleIndex}
+use Rattle.records.specs.Handles.{wordOf, handleIndex}
 use Rattle.slots.specs.Regions as regions
 use Rattle.slots.specs.Regions.{orderAt}
-use Rattle.slots.specs.declared.NodeId.{NodeId}
+use Rattle.records.specs.declared.NodeId.{NodeId}
 use Rattle.slots.specs.declared.OrderKey.{OrderKey}
 use Rattle.slots.specs.declared.OrderKey.the-variants.{None, At}
-use Rattle.slots.proofs.Handles.{handleIndex-wordOf}
+use Rattle.records.proofs.Handles.{handleIndex-wordOf}
 use Rattle.texts.specs.Pool.{Pool}
 use Rattle.names.specs.Table.{Name}
 use Rattle.model.specs.Doc.{noKey, resolves}
 use Rattle.model.specs.Calls.{Answered, key, keyOf, refused, step, order-key}
-use Rattle.memory.specs.declared.layout.Document.{Document}
+use Rattle.layout.specs.declared.Document.{Document}
 use Rattle.memory.specs.Decode.{slotsPart, poolIn, namesIn, lengthsAdd, decode}
 use Rattle.memory.proofs.Columns.{live-made}
-use Rattle.reading.proofs.Found.{live-shown}
+use Rattle.showing.proofs.Found.{live-shown}
 
 abbrev optional : OrderKey → Option ℕ
 optional None = none

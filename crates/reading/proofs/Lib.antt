@@ -1,5 +1,5 @@
 pub mod Lists
-pub mod Found
+pub mod Tested
 pub mod Listed
 pub mod Keyed
 pub mod Elements

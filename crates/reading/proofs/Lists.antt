@@ -5,16 +5,11 @@ use mathlib.Core.List.{List, _++_}
 use Prim.Native.Nat.{ℕ, _+_, _≤_}
 use native.Mathlib.Nat.{zero-add}
 use native.Mathlib.Omega.{arith}
-use lib.ListN.{length, take, length-append}
-use Rattle.words.specs.Parts.{part, put}
-use Rattle.words.proofs.Parts.{part-part, length-put, put-front, put-put, part-put-same}
+use lib.ListN.{length, length-append}
+use Rattle.words.specs.Parts.{put}
+use Rattle.words.proofs.Parts.{length-put, put-front, put-put, part-put-same}
 
 module _ {A : Type 0} (l : List A) where
-  -- a part of the first n is a part of all
-  pub part-take : (n s k : ℕ) → s + k ≤ n → part s k (take n l) ≡ part s k l
-  unfolding part
-  part-take n s k h = part-part l 0 n s k h ∙ ap (λ (i : ℕ). part i k l) (zero-add s)
-
   -- what is put behind what was put at the front
   pub put-append : (vs ws : List A) → length vs + length ws ≤ length l → put (length vs) ws (put 0 vs l) ≡ put 0 (vs ++ ws) l
   put-append vs ws h =

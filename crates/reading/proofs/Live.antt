@@ -19,8 +19,8 @@ use Rattle.words.proofs.Joined.{joined-append}
 use Rattle.slots.specs.Regions.{generationAt}
 use Rattle.model.specs.Doc.{Doc, liveSlot, handleAt, liveNodes}
 use Rattle.model.specs.Calls.{everyNode, nodes}
-use Rattle.memory.specs.declared.layout.Document.{Document}
-use Rattle.memory.specs.Layout.{memoryOk}
+use Rattle.layout.specs.declared.Document.{Document}
+use Rattle.layout.specs.Layout.{memoryOk}
 use Rattle.memory.specs.Decode.{slotsPart, slotsMade, poolIn, namesIn, lengthsAdd, decode}
 use Rattle.memory.proofs.Columns.{length-gens, handle-in}
 use Rattle.memory.proofs.Living.{live-wide}

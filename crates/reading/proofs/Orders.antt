@@ -3,19 +3,19 @@
 use mathlib.Core.Path.{_≡_, sym, ap, _∙_}
 use mathlib.Core.Bool.{Bool, true, false}
 use mathlib.Core.List.{List, []}
-use Prim.Native.Nat.{ℕ, _+_, _-_, _*_, _≤_, _<_}
+use Prim.Native.Nat.{ℕ, _+_, _*_, _≤_, _<_}
 use native.Mathlib.Omega.{arith}
-use lib.ListN.{length, getD, take, drop}
+use lib.ListN.{length, getD, take}
 use lib.Seq.{ext-getD, getD-take, length-take-le}
 use Rattle.words.specs.Parts.{part}
 use Rattle.words.specs.Lists.{tabulate}
-use Rattle.words.proofs.Parts.{length-part, getD-part, lent}
+use Rattle.words.proofs.Parts.{length-part, getD-part}
 use Rattle.words.proofs.Lists.{length-tabulate, getD-tabulate}
 use Rattle.slots.specs.Regions.{orderStart, orderAt}
-use Rattle.memory.specs.declared.layout.Document.{Document}
-use Rattle.memory.specs.Layout.{memoryOk}
+use Rattle.layout.specs.declared.Document.{Document}
+use Rattle.layout.specs.Layout.{memoryOk}
 use Rattle.memory.specs.Decode.{slotsPart, slotsMade, poolIn, namesIn, lengthsAdd, decode}
-use Rattle.memory.proofs.Limits.{sizes}
+use Rattle.layout.proofs.Sizes.{sizes}
 use Rattle.memory.proofs.Columns.{length-gens}
 use Rattle.reading.specs.Answers.{orderShown}
 
@@ -48,17 +48,11 @@ module _ (d : Document) (mem : List ℕ) where
       ∙ sym (getD-part mem (n * 14) k i 0 j))
 
   module _ (t : Bool) (e : t ≡ memoryOk d (length mem)) where
-    pub order-lent : t ≡ true → (made : ℕ) → made ≡ slotsMade d
-        → take (14 * d .limits .nodes + made - 14 * d .limits .nodes) (drop (14 * d .limits .nodes) mem) ≡ orderShown d mem
+    pub order-inside : t ≡ true → (l : List ℕ) → l ≡ part (orderStart (d .limits .nodes)) (slotsMade d) mem → l ≡ orderShown d mem
     unfolding orderShown
-    order-lent y made m =
+    order-inside y l q =
         let ok : memoryOk d (length mem) ≡ true = sym e ∙ y in
-        let q : 14 * n ≡ n * 14 = omega arith in
-        lent mem (14 * n) made
-        ∙ ap (λ (p : ℕ). part p made mem) q
-        ∙ ap (λ (k : ℕ). part (n * 14) k mem) m
-        ∙ sym (words-there (slotsMade d) (omega arith) (sizes d (length mem) ok .slots))
-        ∙ sym (rw ok)
+        q ∙ sym (words-there (slotsMade d) (omega arith) (sizes d (length mem) ok .slots)) ∙ sym (rw ok)
 
     pub order-outside : t ≡ false → [] ≡ orderShown d mem
     unfolding orderShown

@@ -7,25 +7,25 @@ use mathlib.Core.List.{List, []}
 use Prim.Native.Nat.{ℕ, _<_}
 use lib.ListN.{length}
 use Rattle.blocks.specs.Arena.{Block, block}
-use Rattle.slots.specs.Handles.{wordOf}
-use Rattle.slots.specs.declared.NodeId.{NodeId}
-use Rattle.slots.specs.declared.Node.{Node}
-use Rattle.slots.specs.declared.NodeData.{NodeData}
-use Rattle.slots.specs.declared.NodeData.the-variants as given
-use Rattle.slots.specs.declared.Loaded.the-variants.{Found, NoNode}
+use Rattle.records.specs.Handles.{wordOf}
+use Rattle.records.specs.declared.NodeId.{NodeId}
+use Rattle.records.specs.declared.Node.{Node}
+use Rattle.records.specs.declared.NodeData.{NodeData}
+use Rattle.records.specs.declared.NodeData.the-variants as given
+use Rattle.records.specs.declared.Loaded.the-variants.{Found, NoNode}
 use Rattle.names.specs.Table.{name}
 use Rattle.names.specs.Words.{nameShown, nameThere}
 use Rattle.model.specs.Kinds.{Which, attributes, namespaces, isElement, mapKind}
 use Rattle.model.specs.Doc.{bytesAt}
 use Rattle.model.specs.Calls.{Answered, kindIs, nameIs, step, kind-of, name-of}
-use Rattle.memory.specs.declared.layout.Document.{Document}
-use Rattle.memory.specs.Layout.{memoryOk}
+use Rattle.layout.specs.declared.Document.{Document}
+use Rattle.layout.specs.Layout.{memoryOk}
 use Rattle.memory.specs.Decode.{kindOf, elementRange, nameLimits, nameCounts, namesPart, resolvedIn, poolIn, namesIn, lengthsAdd, decode}
 use Rattle.memory.proofs.Columns.{resolved-none}
 use Rattle.memory.proofs.Shown.{name-shown}
 use Rattle.memory.proofs.Lent.{texts-shown}
 use Rattle.reading.specs.Answers.{textIn, namePart, textBytes, nameBytes}
-use Rattle.reading.proofs.Found.{shown}
+use Rattle.showing.proofs.Found.{shown}
 
 -- ---- kinds
 

@@ -7,14 +7,14 @@ use lib.ListN.{length, take}
 use lib.Dec.{leb}
 use Rattle.words.specs.Lists.{tabulate}
 use Rattle.blocks.specs.Arena.{Block, block, listOf}
-use Rattle.slots.specs.Handles.{wordOf}
+use Rattle.records.specs.Handles.{wordOf}
 use Rattle.slots.specs.Regions.{orderAt}
 use Rattle.model.specs.Refusals.{numberOf}
 use Rattle.names.specs.Table.{name}
 use Rattle.model.specs.Kinds.{Which, attributes, namespaces, mapKind}
 use Rattle.model.specs.Calls.{Answered, refused, made, truth, node, listed, everyNode, kindIs, nameIs, key}
-use Rattle.memory.specs.declared.layout.Document.{Document}
-use Rattle.memory.specs.Layout.{memoryOk}
+use Rattle.layout.specs.declared.Document.{Document}
+use Rattle.layout.specs.Layout.{memoryOk}
 use Rattle.memory.specs.Decode.{kindOf, blockOf, elementRange, slotsPart, slotsMade, arenaUsed, arenaIn}
 pub use Rattle.memory.specs.Stored.{textIn, namePart}
 use Rattle.reading.specs.declared.answers.TruthAnswer.{TruthAnswer}

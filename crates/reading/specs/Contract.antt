@@ -9,8 +9,8 @@ use Rattle.words.specs.Parts.{put}
 use Rattle.model.specs.Kinds.{Which, children, attributes, namespaces}
 use Rattle.model.specs.Doc.{liveNodes}
 use Rattle.model.specs.Calls.{Answered, Call, children-of, attribute-nodes, namespace-nodes, refused, step, nodes}
-use Rattle.memory.specs.declared.layout.Document.{Document}
-use Rattle.memory.specs.Layout.{memoryOk}
+use Rattle.layout.specs.declared.Document.{Document}
+use Rattle.layout.specs.Layout.{memoryOk}
 use Rattle.memory.specs.Decode.{decode}
 use Rattle.reading.specs.declared.answers.NodesAnswer.{NodesAnswer}
 use Rattle.reading.specs.Answers.{ofNodes}

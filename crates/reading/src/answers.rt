@@ -1,9 +1,9 @@
 // What the reading calls answer: an enum for each kind of answer. Every one can be refused.
 use model::Refusal;
-use slots::NameId;
-use slots::NodeData;
-use slots::NodeId;
-use slots::Range;
+use records::NodeData;
+use records::NodeId;
+use records::Range;
+use words::NameId;
 
 // Whether it is so.
 pub enum TruthAnswer {

@@ -5,5 +5,4 @@ pub mod name;
 pub mod node;
 pub mod nodes;
 pub mod order;
-pub mod shown;
 pub mod text;

@@ -1,29 +1,27 @@
 // The lists of a node, each as its block, and the handles in a block.
 ghost use mathlib.Core.Path.{_≡_};
-ghost use mathlib.Core.Bool.{true, _&&_};
-ghost use Prim.Native.Nat.{_+_, _≤_};
-ghost use lib.ListN.{length};
+ghost use mathlib.Core.Bool.{_&&_};
+ghost use Prim.Native.Nat.{_+_};
 ghost use lib.Dec.{leb};
-ghost use Rattle.blocks.specs.Arena.{listOf};
-ghost use Rattle.slots.specs.Handles.{wordOf};
+ghost use Rattle.records.specs.Handles.{wordOf};
 ghost use Rattle.model.specs.Kinds.{children, attributes, namespaces};
 ghost use Rattle.model.specs.Calls.{children-of, attribute-nodes, namespace-nodes};
-ghost use Rattle.memory.specs.Layout.{whichOf, entriesOf, memoryOk};
-ghost use Rattle.memory.specs.Decode.{blockOf, arenaUsed, arenaIn};
+ghost use Rattle.layout.specs.Layout.{whichOf, memoryOk};
+ghost use Rattle.memory.specs.Decode.{blockOf, arenaUsed};
 ghost use Rattle.reading.specs.Answers.{ofList, entriesShown};
 ghost use Rattle.reading.specs.Contract.{reads, listCall};
 use crate::answers::ListAnswer;
-use crate::shown::shown_block;
-use memory::layout::Arena;
-use memory::layout::Document;
+use layout::Arena;
+use layout::Document;
 use model::Refusal;
-use slots::NodeId;
-use slots::Range;
+use records::NodeId;
+use records::Range;
+use showing::shown::shown_block;
 
 fn list(d: Document, mem: &[u64], id: NodeId, arena: Arena) -> ListAnswer
     ensures { λ r. ⌜ ofList d (now (mem .entry)) (whichOf arena) r ≡ reads (listCall (whichOf arena) (wordOf id)) d (now (mem .entry)) ⌝ }
 {
-    if memory::layout::memory_ok(d, mem.len()) {
+    if layout::memory_ok(d, mem.len()) {
         ListAnswer::Block(shown_block(d, mem, id, arena))
     } else {
         ListAnswer::Refused(Refusal::BadBuffers)
@@ -51,21 +49,11 @@ pub fn namespace_nodes(d: Document, mem: &[u64], id: NodeId) -> ListAnswer
     list(d, mem, id, Arena::Namespaces)
 }
 
-// The words of an arena's block from its start in the buffer on, where the block lies within the arena.
-fn block_words(d: Document, mem: &[u64], arena: Arena, block: Range) -> &[u64]
-    requires { ⌜ (memoryOk d (length (now mem)) ≡ true) × (block .start + block .len ≤ entriesOf (d .limits) (whichOf arena)) ⌝ }
-    ensures { λ r. ⌜ now r ≡ listOf (arenaIn d (whichOf arena) (now (mem .entry))) (blockOf block) ⌝ }
-{
-    let start = memory::layout::arena_at(d.limits, arena) + block.start as usize;
-    let end = start + block.len as usize;
-    &mem[start..end]
-}
-
 // Whether test 4 passes for a buffer of mem words, and the block lies within the arena's length.
 fn is_shown(d: Document, mem: usize, arena: Arena, block: Range) -> bool
     ensures { λ r. ⌜ r ≡ (memoryOk d mem && leb (block .start + block .len) (arenaUsed d (whichOf arena))) ⌝ }
 {
-    if memory::layout::memory_ok(d, mem) {
+    if layout::memory_ok(d, mem) {
         block.start as usize + block.len as usize <= memory::read::arena_used(d, arena)
     } else {
         false
@@ -77,7 +65,7 @@ pub fn entries(d: Document, mem: &[u64], arena: Arena, block: Range) -> &[u64]
     ensures { λ r. ⌜ now r ≡ entriesShown d (now (mem .entry)) (whichOf arena) (blockOf block) ⌝ }
 {
     if is_shown(d, mem.len(), arena, block) {
-        block_words(d, mem, arena, block)
+        memory::parts::block_words(d, mem, arena, block)
     } else {
         &mem[..0]
     }

@@ -4,15 +4,15 @@ ghost use Rattle.model.specs.Calls.{name-of};
 ghost use Rattle.reading.specs.Answers.{ofName, nameBytes};
 ghost use Rattle.reading.specs.Contract.{reads};
 use crate::answers::NameAnswer;
-use memory::layout::Document;
+use layout::Document;
 use model::Refusal;
-use slots::NameId;
+use words::NameId;
 
 // Rules out a name for a number from the name count on, and one whose bytes are not all in the table.
 pub fn name(d: Document, mem: &[u64], number: NameId) -> NameAnswer
     ensures { λ r. ⌜ ofName d (now (mem .entry)) r ≡ reads (name-of (number .0)) d (now (mem .entry)) ⌝ }
 {
-    if memory::layout::memory_ok(d, mem.len()) {
+    if layout::memory_ok(d, mem.len()) {
         if memory::stored::has_name(d, mem, number) {
             NameAnswer::Name(number)
         } else {
@@ -27,7 +27,7 @@ pub fn name(d: Document, mem: &[u64], number: NameId) -> NameAnswer
 pub fn namespace_bytes(d: Document, mem: &[u64], number: NameId) -> &[u64]
     ensures { λ r. ⌜ now r ≡ nameBytes d (now (mem .entry)) (number .0) 0 ⌝ }
 {
-    if memory::layout::memory_ok(d, mem.len()) {
+    if layout::memory_ok(d, mem.len()) {
         memory::stored::namespace_bytes(d, mem, number)
     } else {
         &mem[..0]
@@ -38,7 +38,7 @@ pub fn namespace_bytes(d: Document, mem: &[u64], number: NameId) -> &[u64]
 pub fn local_bytes(d: Document, mem: &[u64], number: NameId) -> &[u64]
     ensures { λ r. ⌜ now r ≡ nameBytes d (now (mem .entry)) (number .0) 1 ⌝ }
 {
-    if memory::layout::memory_ok(d, mem.len()) {
+    if layout::memory_ok(d, mem.len()) {
         memory::stored::local_bytes(d, mem, number)
     } else {
         &mem[..0]

@@ -6,14 +6,14 @@ ghost use lib.ListN.{length};
 ghost use lib.Dec.{leb};
 ghost use Rattle.words.specs.Parts.{put};
 ghost use Rattle.model.specs.Doc.{liveNodes};
-ghost use Rattle.memory.specs.Layout.{memoryOk};
+ghost use Rattle.layout.specs.Layout.{memoryOk};
 ghost use Rattle.memory.specs.Decode.{slotsMade, decode};
 ghost use Rattle.reading.specs.Nodes.{liveEntry};
 ghost use Rattle.reading.specs.Contract.{NodesRead};
 use crate::answers::NodesAnswer;
-use memory::layout::Document;
+use layout::Document;
 use model::Refusal;
-use slots::NodeSlot;
+use words::NodeSlot;
 
 // Writes the handle of a live slot at index count, and answers the count then.
 fn put_live(d: Document, mem: &[u64], out: &mut [u64], slot: NodeSlot, count: usize) -> usize
@@ -49,7 +49,7 @@ fn write_nodes(d: Document, mem: &[u64], out: &mut [u64]) -> usize
 pub fn nodes_ok(d: Document, mem: usize, out: usize) -> bool
     ensures { λ r. ⌜ r ≡ (memoryOk d mem && leb (d .limits .nodes) out) ⌝ }
 {
-    if memory::layout::memory_ok(d, mem) {
+    if layout::memory_ok(d, mem) {
         let l = d.limits;
         l.nodes <= out
     } else {

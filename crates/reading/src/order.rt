@@ -3,26 +3,26 @@ ghost use mathlib.Core.Path.{_≡_};
 ghost use mathlib.Core.Bool.{true, cond};
 ghost use Prim.Native.Nat.{_<_};
 ghost use lib.ListN.{length};
-ghost use Rattle.slots.specs.Handles.{wordOf};
+ghost use Rattle.records.specs.Handles.{wordOf};
 ghost use Rattle.slots.specs.Regions.{orderAt};
 ghost use Rattle.model.specs.Calls.{key, keyOf, refused, root-of, order-key};
-ghost use Rattle.memory.specs.Layout.{memoryOk};
+ghost use Rattle.layout.specs.Layout.{memoryOk};
 ghost use Rattle.memory.specs.Decode.{slotsPart};
 ghost use Rattle.reading.specs.Answers.{ofRoot, ofKey, orderShown};
 ghost use Rattle.reading.specs.Contract.{reads};
 use crate::answers::KeyAnswer;
 use crate::answers::RootAnswer;
-use memory::layout::Document;
+use layout::Document;
 use model::Refusal;
-use slots::NodeId;
-use slots::NodeSlot;
+use records::NodeId;
 use slots::OrderKey;
+use words::NodeSlot;
 
 // Rules out another handle than (0, 0), and one where the memory is too short.
 pub fn root(d: Document, mem: &[u64]) -> RootAnswer
     ensures { λ r. ⌜ ofRoot r ≡ reads root-of d (now (mem .entry)) ⌝ }
 {
-    if memory::layout::memory_ok(d, mem.len()) {
+    if layout::memory_ok(d, mem.len()) {
         RootAnswer::Root(NodeId {
             index: 0,
             generation: 0,
@@ -51,7 +51,7 @@ fn live_key(d: Document, mem: &[u64], slot: NodeSlot) -> KeyAnswer
 pub fn order_key(d: Document, mem: &[u64], id: NodeId) -> KeyAnswer
     ensures { λ r. ⌜ ofKey r ≡ reads (order-key (wordOf id)) d (now (mem .entry)) ⌝ }
 {
-    if memory::layout::memory_ok(d, mem.len()) {
+    if layout::memory_ok(d, mem.len()) {
         if memory::read::resolves(d, mem, id) {
             live_key(d, mem, NodeSlot(id.index))
         } else {
@@ -66,11 +66,8 @@ pub fn order_key(d: Document, mem: &[u64], id: NodeId) -> KeyAnswer
 pub fn order_words(d: Document, mem: &[u64]) -> &[u64]
     ensures { λ r. ⌜ now r ≡ orderShown d (now (mem .entry)) ⌝ }
 {
-    if memory::layout::memory_ok(d, mem.len()) {
-        let l = d.limits;
-        let start = 14 * l.nodes;
-        let end = start + memory::read::made(d);
-        &mem[start..end]
+    if layout::memory_ok(d, mem.len()) {
+        memory::parts::order_words(d, mem)
     } else {
         &mem[..0]
     }

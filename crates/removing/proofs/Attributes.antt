@@ -12,13 +12,13 @@ use Rattle.model.specs.Doc.{Doc, resolves, kindAt, viewAt}
 use Rattle.model.specs.Arguments.{notUtf8}
 use Rattle.model.specs.Checks.{anElement, checkRemoveAttribute}
 use Rattle.model.specs.Calls.{Out, answers, truth, remove-attribute, removed, removeAttributeFound, findAttribute, step}
-use Rattle.memory.specs.declared.layout.Document.{Document}
+use Rattle.layout.specs.declared.Document.{Document}
 use Rattle.memory.specs.Decode.{decode}
 use Rattle.memory.specs.Step.{Step}
 use Rattle.memory.specs.Performed.{Admitted}
-use Rattle.plans.proofs.Found.{found-attribute}
+use Rattle.lookup.proofs.Found.{found-attribute}
 use Rattle.edits.proofs.Accepted.{guard-passed, guard-open, element-there, performed}
-use Rattle.model.proofs.Guards.{first-zero}
+use Rattle.laws.proofs.Guards.{first-zero}
 use Rattle.editing.specs.Contract.{Answers}
 use Rattle.editing.proofs.Editing.{performed-answers}
 

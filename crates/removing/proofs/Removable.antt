@@ -10,15 +10,15 @@ use Rattle.model.specs.Kinds.{Kind, root, element, attribute, text, comment, na
 use Rattle.model.specs.Doc.{Doc, resolves, kindAt, nodeAt, viewAt, pairAt, bytesAt}
 use Rattle.model.specs.Checks.{checkRemove}
 use Rattle.model.specs.Calls.{Out, done, remove, removed, step, guarded, answers}
-use Rattle.model.proofs.Guards.{refuse-zero}
-use Rattle.memory.specs.declared.layout.Document.{Document}
+use Rattle.laws.proofs.Guards.{refuse-zero}
+use Rattle.layout.specs.declared.Document.{Document}
 use Rattle.memory.specs.Decode.{decode}
 use Rattle.memory.specs.Step.{Step}
 use Rattle.edits.proofs.Accepted.{viewed, performed}
-use Rattle.plans.specs.declared.verdict.Verdict.{Verdict}
-use Rattle.plans.specs.declared.verdict.Verdict.the-variants.{Accepted}
-use Rattle.plans.specs.Verdicts.{verdictNumber, refusalNumber}
-use Rattle.plans.proofs.Refusing.{number-guarded}
+use Rattle.verdicts.specs.declared.verdict.Verdict.{Verdict}
+use Rattle.verdicts.specs.declared.verdict.Verdict.the-variants.{Accepted}
+use Rattle.verdicts.specs.Verdicts.{verdictNumber, refusalNumber}
+use Rattle.verdicts.proofs.Refusing.{number-guarded}
 use Rattle.editing.specs.Contract.{Answers}
 use Rattle.editing.proofs.Editing.{performed-answers}
 

@@ -2,24 +2,24 @@
 ghost use mathlib.Core.Path.{_≡_};
 ghost use mathlib.Core.Bool.{true};
 ghost use lib.ListN.{length, replicate};
-ghost use Rattle.slots.specs.Handles.{wordOf};
+ghost use Rattle.records.specs.Handles.{wordOf};
 ghost use Rattle.names.specs.Table.{name};
 ghost use Rattle.model.specs.Calls.{remove-attribute, findAttribute};
-ghost use Rattle.memory.specs.Layout.{buffersOk};
+ghost use Rattle.layout.specs.Layout.{buffersOk};
 ghost use Rattle.memory.specs.Decode.{decode};
 ghost use Rattle.memory.specs.Undamaged.{Undamaged};
 ghost use Rattle.memory.specs.Performed.{Admitted};
-ghost use Rattle.plans.specs.Listed.{listedWord};
+ghost use Rattle.lookup.specs.Listed.{listedWord};
 ghost use Rattle.editing.specs.Contract.{Edits, Answers};
 ghost use Rattle.editing.specs.Answers.{ofFound, afterFound};
 use crate::remove::remove_node;
 use editing::admission::admit;
 use editing::answers::FoundAnswer;
-use memory::layout::Document;
+use layout::Document;
+use lookup::search::Listed;
 use plans::listing::plan_remove_attribute;
-use plans::search::Listed;
-use plans::verdict::Verdict;
-use slots::NodeId;
+use records::NodeId;
+use verdicts::verdict::Verdict;
 
 // Scratch is all zero before and after.
 fn remove_found(
@@ -39,7 +39,7 @@ fn remove_found(
 {
     match found {
         Listed::At(word) => {
-            let id = slots::handle::id_of(word);
+            let id = records::handle::id_of(word);
             FoundAnswer::Found(remove_node(d, mem, scratch, id), true)
         }
         Listed::Nowhere => FoundAnswer::Found(d, false),

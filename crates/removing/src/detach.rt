@@ -1,5 +1,5 @@
 // A node is taken off its parent and stays a tree of its own.
-ghost use Rattle.slots.specs.Handles.{wordOf};
+ghost use Rattle.records.specs.Handles.{wordOf};
 ghost use Rattle.model.specs.Calls.{detach};
 ghost use Rattle.memory.specs.Undamaged.{Undamaged};
 ghost use Rattle.editing.specs.Contract.{Edits, Answers};
@@ -7,10 +7,10 @@ ghost use Rattle.editing.specs.Answers.{ofDone, afterDone};
 use editing::admission::admit;
 use editing::answers::DoneAnswer;
 use edits::moves::detach_node;
-use memory::layout::Document;
-use plans::removing::plan_detach;
-use plans::verdict::Verdict;
-use slots::NodeId;
+use layout::Document;
+use plans::removals::plan_detach;
+use records::NodeId;
+use verdicts::verdict::Verdict;
 
 fn detach_checked(d: Document, mem: &mut [u64], id: NodeId) -> DoneAnswer
     requires { ⌜ Undamaged d (now mem) ⌝ }

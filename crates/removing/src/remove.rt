@@ -2,11 +2,11 @@
 ghost use mathlib.Core.Path.{_≡_};
 ghost use mathlib.Core.Bool.{true, false};
 ghost use lib.ListN.{length, replicate};
-ghost use Rattle.slots.specs.Handles.{wordOf};
+ghost use Rattle.records.specs.Handles.{wordOf};
 ghost use Rattle.model.specs.Kinds.{isRoot};
 ghost use Rattle.model.specs.Doc.{resolves, kindAt};
 ghost use Rattle.model.specs.Calls.{remove, removed};
-ghost use Rattle.memory.specs.Layout.{buffersOk};
+ghost use Rattle.layout.specs.Layout.{buffersOk};
 ghost use Rattle.memory.specs.Decode.{decode};
 ghost use Rattle.memory.specs.Undamaged.{Undamaged};
 ghost use Rattle.memory.specs.Step.{Step};
@@ -15,10 +15,10 @@ ghost use Rattle.editing.specs.Answers.{ofDone, afterDone};
 use editing::admission::admit;
 use editing::answers::DoneAnswer;
 use freeing::subtree::do_remove;
-use memory::layout::Document;
-use plans::removing::plan_remove;
-use plans::verdict::Verdict;
-use slots::NodeId;
+use layout::Document;
+use plans::removals::plan_remove;
+use records::NodeId;
+use verdicts::verdict::Verdict;
 
 // The stack of the walk stood in scratch, which is cleared again.
 pub fn remove_node(d: Document, mem: &mut [u64], scratch: &mut [u64], id: NodeId) -> Document

@@ -6,7 +6,7 @@ use crate::buffers::TEXTS;
 use crate::edit::Reply;
 use crate::edit::edit;
 use dumping::dump;
-use memory::layout::Document;
+use layout::Document;
 use parsing::parse::Alone;
 use parsing::parse::LONGEST;
 use parsing::parse::Line;
@@ -15,7 +15,7 @@ use parsing::parse::parse;
 use printing::show;
 use printing::sink::put;
 use printing::sink::put_number;
-use slots::NodeId;
+use records::NodeId;
 
 fn no_call(out: &mut [u8; OUT], at: usize, number: u64) -> usize {
     let mark = put(out, at, b"? ");

@@ -6,16 +6,16 @@ use editing::answers::DoneAnswer;
 use editing::answers::FoundAnswer;
 use editing::answers::MadeAnswer;
 use editing::answers::OrderAnswer;
+use layout::Document;
+use layout::Limits;
+use layout::record::slots_alone;
 use lines::read::between;
-use memory::layout::Counts;
-use memory::layout::Document;
-use memory::layout::Limits;
 use model::Refusal;
 use parsing::parse::Alone;
 use parsing::parse::Line;
 use parsing::parse::WithText;
 use parsing::parse::WithTexts;
-use slots::NodeId;
+use records::NodeId;
 use tree::start::StartAnswer;
 
 // What a call answers; nothing where the line is no editing call.
@@ -32,27 +32,6 @@ pub enum Reply {
 pub struct After {
     pub document: Document,
     pub reply: Reply,
-}
-
-// A record of nothing: with it the buffers' sizes are tested.
-fn empty(limits: Limits) -> Document {
-    let counts = Counts {
-        slots: 0,
-        free: 0,
-        children: 0,
-        attributes: 0,
-        namespaces: 0,
-        texts: 0,
-        freetexts: 0,
-        textbytes: 0,
-        names: 0,
-        namebytes: 0,
-    };
-    Document {
-        limits,
-        counts,
-        current: false,
-    }
 }
 
 // The limits of a list that chooses none; the buffers fit them and no more.
@@ -73,7 +52,7 @@ fn own_limits() -> Limits {
 pub fn fresh(mem: &mut [u64; MEMORY]) -> Document {
     match tree::start::start(own_limits(), mem) {
         StartAnswer::Started(document) => document,
-        StartAnswer::Refused(_) => empty(own_limits()),
+        StartAnswer::Refused(_) => slots_alone(own_limits(), 0, false),
     }
 }
 
@@ -122,7 +101,7 @@ fn ordered(d: Document, answer: OrderAnswer) -> After {
 
 // Scratch has to fit the limits too, and a document whose limits are refused stays.
 fn limited(d: Document, mem: &mut [u64; MEMORY], limits: Limits) -> After {
-    if memory::layout::buffers_ok(empty(limits), MEMORY, SCRATCH) {
+    if layout::buffers_ok(slots_alone(limits, 0, false), MEMORY, SCRATCH) {
         return started(d, tree::start::start(limits, mem));
     }
     replied(d, Reply::Refused(Refusal::BadBuffers))

@@ -2,7 +2,7 @@
 -- Assumes nothing.
 use mathlib.Core.Path.{refl}
 use Rattle.words.specs.Parts.{part, put}
-use Rattle.slots.specs.Records.{recordOf, isSpan, isData, isParent, areRanges, isNode}
+use Rattle.records.specs.Records.{recordOf, isSpan, isData, isParent, areRanges, isNode}
 use Rattle.slots.specs.Regions.{generationAt, freeAt, recordAt, putGeneration, putFree, putRecord, putOrder}
 use Rattle.slots.specs.Slots.{isCurrent, resolves, taken, takenGenerations, takenWords, freedWords}
 use Rattle.slots.specs.Examples.{SlotExamples}

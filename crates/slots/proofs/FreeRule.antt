@@ -15,10 +15,9 @@ use borrow.Author.Tests.{ltb-true, lt-ltb, le-ltb, eqb-true, eq-eqb, ne-eqb}
 use Rattle.words.specs.Parts.{part}
 use Rattle.words.specs.Lists.{countOf, allBelow}
 use Rattle.words.proofs.Parts.{lent, length-part}
-use Rattle.words.proofs.Lists.{countOf-le, allBelow-at, at-allBelow}
+use Rattle.words.proofs.Lists.{countOf-le, allBelow-at, at-allBelow, allBelow-next, allBelow-not, allBelow-same, countOf-snoc}
 use Rattle.words.proofs.Tests.{and-left, and-right, and-both}
 use Rattle.slots.specs.FreeRule.{FreeRule, areSlots, freeRule, Counted, marksMatch, generations, freeStack}
-use Rattle.slots.proofs.Lists.{allBelow-next, allBelow-not, allBelow-same, countOf-snoc}
 
 -- ---- the test says the rule
 

@@ -12,7 +12,7 @@ use Rattle.words.specs.Lists.{countOf}
 use Rattle.words.proofs.Counting.{counted-same, counted-other, once-length, once-room}
 use Rattle.slots.specs.FreeRule.{FreeRule}
 use Rattle.slots.specs.Slots.{up}
-use Rattle.slots.proofs.Lists.{countOf-snoc}
+use Rattle.words.proofs.Lists.{countOf-snoc}
 
 -- a generation of 32 bits changes its last bit, also from 4,294,967,295 to 0
 pub up-even : (g : ℕ) → g % 2 ≡ 0 → up g % 2 ≡ 1

@@ -1,12 +1,5 @@
-pub mod Handles
-pub mod Records
-pub mod Decoding
 pub mod Regions
 pub mod Storing
-pub mod PatchRange
-pub mod WithRange
-pub mod Ranges
-pub mod Lists
 pub mod FreeRule
 pub mod WordsRule
 pub mod FreeStack

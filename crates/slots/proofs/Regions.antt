@@ -1,6 +1,6 @@
 -- What each reader of the lent part finds after each writer: the new value at its own place, and what was there everywhere else.
 -- Assumes nothing.
-use mathlib.Core.Path.{_≡_, refl, sym, ap, _∙_}
+use mathlib.Core.Path.{_≡_, sym, ap, _∙_}
 use mathlib.Core.Logic.{_⊎_, ⊎-elim, inl, inr}
 use mathlib.Core.List.{List, [], _∷_}
 use Prim.Native.Nat.{ℕ, _+_, _≤_, _<_}
@@ -10,24 +10,20 @@ use lib.ListN.{length, getD, set, replicate, length-set, length-replicate, getD-
 use lib.Seq.{getD-set-same, getD-set-other}
 use Rattle.words.specs.Parts.{part, put}
 use Rattle.words.proofs.Parts.{set-put, length-put, getD-part, part-put-same, part-put-before, part-put-after, getD-put-before, getD-put-after}
-use Rattle.slots.specs.declared.NodeRecord.{NodeRecord}
-use Rattle.slots.specs.declared.Node.{Node}
-use Rattle.slots.specs.declared.Loaded.the-variants.{Found}
-use Rattle.slots.specs.Records.{recordOf, nodeOf, zeroRoot}
-use Rattle.slots.specs.Fields.{NodeFits}
-use Rattle.slots.specs.Regions.{slotsWords, recordStart, orderStart, readRecord, recordWords, generationAt, freeAt, recordAt, nodeAt, orderAt, putGeneration, putFree, putRecord, putOrder, clearOrder}
-use Rattle.slots.proofs.Lists.{part-replicate}
-use Rattle.slots.proofs.Records.{record-back, node-back, found-fits}
+use Rattle.records.specs.declared.NodeRecord.{NodeRecord}
+use Rattle.records.specs.declared.Node.{Node}
+use Rattle.records.specs.declared.Loaded.the-variants.{Found}
+use Rattle.records.specs.Records.{readRecord, recordWords, recordOf, nodeOf, zeroRoot}
+use Rattle.records.specs.Fields.{NodeFits}
+use Rattle.slots.specs.Regions.{slotsWords, recordStart, orderStart, generationAt, freeAt, recordAt, nodeAt, orderAt, putGeneration, putFree, putRecord, putOrder, clearOrder}
+use Rattle.words.proofs.Lists.{part-replicate}
+use Rattle.records.proofs.Records.{record-back, node-back, found-fits}
 
 -- a part that a store does not meet
 part-set : {A : Type 0} (l : List A) (a k j : ℕ) (v : A) → j < length l → (j < a) ⊎ (a + k ≤ j) → part a k (set l j v) ≡ part a k l
 part-set l a k j v h side =
     ap (part a k) (set-put l j v h)
     ∙ ⊎-elim (λ b. part-put-after l j (v ∷ []) a k (omega arith) (omega arith)) (λ b. part-put-before l j (v ∷ []) a k b (omega arith)) side
-
--- twelve words are read as they were written
-pub readRecord-recordWords : (r : NodeRecord) → readRecord (recordWords r) ≡ r
-readRecord-recordWords r = refl
 
 -- the node in a slot is a matter of its record alone
 pub nodeAt-recordAt : (n : ℕ) (v w : List ℕ) (s t : ℕ) → recordAt n v s ≡ recordAt n w t → nodeAt n v s ≡ nodeAt n w t

@@ -10,15 +10,15 @@ use lib.ListN.{getD, set}
 use lib.Dec.{eqb, ltb}
 use borrow.Author.Tests.{ltb-true, lt-ltb, le-ltb, eqb-true, eq-eqb, ne-eqb}
 use Rattle.words.proofs.Tests.{and-left, and-right}
-use Rattle.slots.specs.declared.NodeId.{NodeId}
-use Rattle.slots.specs.declared.Node.{Node}
-use Rattle.slots.specs.declared.Loaded.{Loaded}
-use Rattle.slots.specs.declared.Loaded.the-variants.{Found, NoNode}
+use Rattle.records.specs.declared.NodeId.{NodeId}
+use Rattle.records.specs.declared.Node.{Node}
+use Rattle.records.specs.declared.Loaded.{Loaded}
+use Rattle.records.specs.declared.Loaded.the-variants.{Found, NoNode}
 use Rattle.slots.specs.declared.slot.Taken.{Taken}
-use Rattle.slots.specs.Records.{isNode, foundNode, nodeOf}
+use Rattle.records.specs.Records.{isNode, foundNode, nodeOf}
 use Rattle.slots.specs.Regions.{generationAt, freeAt, recordAt, nodeAt, putGeneration, putFree, putOrder, noPosition}
 use Rattle.slots.specs.Slots.{up, isCurrent, resolves, resolved, taken, takenGenerations, takenWords, CanTake, freedWords}
-use Rattle.slots.proofs.Records.{is-node-found, found-is-node}
+use Rattle.records.proofs.Records.{is-node-found, found-is-node}
 
 -- ---- handles
 

@@ -1,22 +1,16 @@
 -- What the readers and writers of the lent part cite.
 -- Assumes nothing.
 use mathlib.Core.Path.{_≡_, refl, ap, _∙_}
-use mathlib.Core.List.{List, _++_, append-nil}
+use mathlib.Core.List.{List, _++_}
 use Prim.Native.Nat.{ℕ, _+_, _-_, _<_, _≤_}
-use native.Mathlib.Omega.{arith}
-use lib.ListN.{length, take, drop, drop-of-length-le}
-use lib.Seq.{sets, sets-eq}
+use lib.ListN.{take, drop}
 use borrow.Author.Tests.{lt-ltb, le-ltb}
 use Rattle.words.proofs.Parts.{lent, returned}
-use Rattle.slots.specs.declared.Loaded.{Loaded}
+use Rattle.records.specs.declared.Loaded.{Loaded}
 use Rattle.slots.specs.declared.OrderKey.the-variants.{None, At}
-use Rattle.slots.specs.declared.NodeRecord.{NodeRecord}
-use Rattle.slots.specs.Records.{nodeOf}
-use Rattle.slots.specs.Regions.{recordStart, readRecord, recordWords, recordAt, nodeAt, putRecord, keyOf}
-
--- twelve stores over twelve words
-pub stored : (w vs : List ℕ) → length w ≡ length vs → sets w 0 vs ≡ vs
-stored w vs h = sets-eq vs w 0 (omega arith) ∙ rw (drop-of-length-le w {i = 0 + length vs} (omega arith)) (append-nil vs)
+use Rattle.records.specs.declared.NodeRecord.{NodeRecord}
+use Rattle.records.specs.Records.{readRecord, recordWords, nodeOf}
+use Rattle.slots.specs.Regions.{recordStart, recordAt, nodeAt, putRecord, keyOf}
 
 -- a record's part, lent and returned
 pub record-read : (n : ℕ) (w : List ℕ) (s : ℕ) (r : NodeRecord) → r ≡ readRecord (take (recordStart n s + 12 - recordStart n s) (drop (recordStart n s) w)) → r ≡ recordAt n w s

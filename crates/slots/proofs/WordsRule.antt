@@ -8,13 +8,12 @@ use native.Mathlib.Decide.{ℕ-discrete}
 use native.Mathlib.Omega.{arith}
 use lib.Dec.{eqb, ltb}
 use borrow.Author.Tests.{ltb-true, lt-ltb, le-ltb, eq-eqb, ne-eqb}
-use Rattle.words.proofs.Lists.{allBelow-at, at-allBelow}
+use Rattle.words.proofs.Lists.{allBelow-at, at-allBelow, allBelow-next, allBelow-not}
 use Rattle.words.proofs.Tests.{and-left, and-right, and-both}
-use Rattle.slots.specs.declared.NodeRecord.{NodeRecord}
-use Rattle.slots.specs.Records.{isNode}
+use Rattle.records.specs.declared.NodeRecord.{NodeRecord}
+use Rattle.records.specs.Records.{isNode}
 use Rattle.slots.specs.Regions.{generationAt, recordAt, orderAt}
 use Rattle.slots.specs.WordsRule.{WordsRule, slotWords, wordsRule}
-use Rattle.slots.proofs.Lists.{allBelow-next, allBelow-not}
 
 module _ (n : ℕ) (w : List ℕ) where
   -- ---- a slot

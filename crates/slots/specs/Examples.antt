@@ -4,12 +4,12 @@ use mathlib.Core.Bool.{true, false}
 use mathlib.Core.List.{List}
 use Prim.Native.Nat.{ℕ}
 use lib.ListN.{replicate}
-use Rattle.slots.specs.declared.NodeId.{NodeId}
-use Rattle.slots.specs.declared.Chars.the-variants.{Expanded}
-use Rattle.slots.specs.declared.Parent.the-variants.{Of}
-use Rattle.slots.specs.declared.NodeData.the-variants.{Text}
-use Rattle.slots.specs.declared.Node.{Node}
-use Rattle.slots.specs.Records.{recordOf}
+use Rattle.records.specs.declared.NodeId.{NodeId}
+use Rattle.records.specs.declared.Chars.the-variants.{Expanded}
+use Rattle.records.specs.declared.Parent.the-variants.{Of}
+use Rattle.records.specs.declared.NodeData.the-variants.{Text}
+use Rattle.records.specs.declared.Node.{Node}
+use Rattle.records.specs.Records.{recordOf}
 use Rattle.slots.specs.Regions.{slotsWords, putGeneration, putRecord}
 use Rattle.slots.specs.Slots.{up, resolves, taken, takenWords, freedWords}
 

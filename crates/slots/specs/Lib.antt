@@ -1,8 +1,4 @@
-pub mod Handles
-pub mod Records
-pub mod Fields
 pub mod Regions
-pub mod Ranges
 pub mod Slots
 pub mod FreeRule
 pub mod WordsRule

@@ -1,15 +1,15 @@
 -- The one part that the crate is lent: for n slots the generations, n words; the free stack, n; the node records, 12 n; the order words, n.
 use mathlib.Core.Bool.{cond}
-use mathlib.Core.List.{List, [], _∷_}
+use mathlib.Core.List.{List}
 use Prim.Native.Nat.{ℕ, _+_, _*_}
 use lib.ListN.{getD, set, replicate}
 use lib.Dec.{ltb}
 use Rattle.words.specs.Parts.{part, put}
-use Rattle.slots.specs.declared.Loaded.{Loaded}
-use Rattle.slots.specs.declared.NodeRecord.{NodeRecord}
+use Rattle.records.specs.declared.Loaded.{Loaded}
+use Rattle.records.specs.declared.NodeRecord.{NodeRecord}
 use Rattle.slots.specs.declared.OrderKey.{OrderKey}
 use Rattle.slots.specs.declared.OrderKey.the-variants.{None, At}
-use Rattle.slots.specs.Records.{nodeOf}
+use Rattle.records.specs.Records.{readRecord, recordWords, nodeOf}
 
 abbrev pub slotsWords : ℕ → ℕ
 slotsWords n = 15 * n
@@ -20,25 +20,6 @@ recordStart n s = n * 2 + s * 12
 
 abbrev pub orderStart : ℕ → ℕ
 orderStart n = n * 14
-
--- twelve words, by name, and back
-abbrev pub readRecord : List ℕ → NodeRecord
-readRecord w = record {
-  kind = getD w 0 0;
-  name = getD w 1 0;
-  first = getD w 2 0;
-  second = getD w 3 0;
-  parent = getD w 4 0;
-  generation = getD w 5 0;
-  children = record { start = getD w 6 0; len = getD w 7 0 };
-  attributes = record { start = getD w 8 0; len = getD w 9 0 };
-  namespaces = record { start = getD w 10 0; len = getD w 11 0 };
-}
-
-abbrev pub recordWords : NodeRecord → List ℕ
-recordWords r =
-    r .kind ∷ r .name ∷ r .first ∷ r .second ∷ r .parent ∷ r .generation
-    ∷ r .children .start ∷ r .children .len ∷ r .attributes .start ∷ r .attributes .len ∷ r .namespaces .start ∷ r .namespaces .len ∷ []
 
 module _ (n : ℕ) (w : List ℕ) where
   -- a slot's generation

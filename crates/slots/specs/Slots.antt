@@ -5,11 +5,11 @@ use mathlib.Core.List.{List}
 use Prim.Native.Nat.{ℕ, _+_, _-_, _%_, _<_, _≤_}
 use lib.ListN.{length}
 use lib.Dec.{eqb, ltb}
-use Rattle.slots.specs.declared.NodeId.{NodeId}
-use Rattle.slots.specs.declared.Loaded.{Loaded}
-use Rattle.slots.specs.declared.Loaded.the-variants.{NoNode}
+use Rattle.records.specs.declared.NodeId.{NodeId}
+use Rattle.records.specs.declared.Loaded.{Loaded}
+use Rattle.records.specs.declared.Loaded.the-variants.{NoNode}
 use Rattle.slots.specs.declared.slot.Taken.{Taken}
-use Rattle.slots.specs.Records.{isNode}
+use Rattle.records.specs.Records.{isNode}
 use Rattle.slots.specs.Regions.{slotsWords, generationAt, freeAt, recordAt, nodeAt, putGeneration, putFree, putOrder, noPosition}
 
 -- 01: "On freeing and on reuse a generation goes up by one, and from 4,294,967,295 to 0."

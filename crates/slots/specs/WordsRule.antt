@@ -5,7 +5,7 @@ use mathlib.Core.List.{List}
 use Prim.Native.Nat.{ℕ, _<_, _%_}
 use lib.Dec.{eqb, ltb}
 use Rattle.words.specs.Lists.{allBelow}
-use Rattle.slots.specs.Records.{isNode}
+use Rattle.records.specs.Records.{isNode}
 use Rattle.slots.specs.Regions.{generationAt, recordAt, orderAt}
 
 pub record WordsRule (n : ℕ) (w : List ℕ) (made : ℕ) : Type 0 where

@@ -2,68 +2,32 @@
 ghost use mathlib.Core.Path.{_≡_};
 ghost use Prim.Native.Nat.{_<_, _≤_};
 ghost use lib.ListN.{length};
-ghost use Rattle.slots.specs.Regions.{slotsWords, readRecord, recordWords, generationAt, recordAt, nodeAt, orderAt, putRecord, putOrder, clearOrder, keyOf};
-use crate::Loaded;
-use crate::NodeRecord;
-use crate::NodeSlot;
+ghost use Rattle.slots.specs.Regions.{slotsWords, generationAt, recordAt, nodeAt, orderAt, putRecord, putOrder, clearOrder, keyOf};
 use crate::OrderKey;
-use crate::Span;
-use crate::decode::node_of;
+use records::Loaded;
+use records::NodeRecord;
+use records::decode::node_of;
+use records::named::RECORD_WORDS;
+use records::named::read_record;
+use records::named::write_record;
+use words::NodeSlot;
 
-fn read_record(words: &[u64]) -> NodeRecord
-    requires { ⌜ length (now words) ≡ 12 ⌝ }
-    ensures { λ r. ⌜ r ≡ readRecord (now (words .entry)) ⌝ }
-{
-    NodeRecord {
-        kind: words[0],
-        name: words[1],
-        first: words[2],
-        second: words[3],
-        parent: words[4],
-        generation: words[5],
-        children: Span {
-            start: words[6],
-            len: words[7],
-        },
-        attributes: Span {
-            start: words[8],
-            len: words[9],
-        },
-        namespaces: Span {
-            start: words[10],
-            len: words[11],
-        },
-    }
-}
+// The words of a slot: a generation, an entry of the free stack, a record, an order word.
+pub const SLOT_WORDS: usize = 15;
 
-fn write_record(words: &mut [u64], r: NodeRecord)
-    requires { ⌜ length (now words) ≡ 12 ⌝ }
-    ensures { λ _. ⌜ now (words .exit) ≡ recordWords r ⌝ }
-{
-    let children = r.children;
-    let attributes = r.attributes;
-    let namespaces = r.namespaces;
-    words[0] = r.kind;
-    words[1] = r.name;
-    words[2] = r.first;
-    words[3] = r.second;
-    words[4] = r.parent;
-    words[5] = r.generation;
-    words[6] = children.start;
-    words[7] = children.len;
-    words[8] = attributes.start;
-    words[9] = attributes.len;
-    words[10] = namespaces.start;
-    words[11] = namespaces.len;
-}
+// Where the records start, in words a slot.
+pub const RECORDS_AT: usize = 2;
+
+// Where the order words start.
+pub const ORDERS_AT: usize = 14;
 
 pub fn load_record(words: &[u64], n: usize, slot: NodeSlot) -> NodeRecord
     requires { ⌜ (slotsWords n ≤ length (now words)) × (slot .0 < n) ⌝ }
     ensures { λ r. ⌜ r ≡ recordAt n (now (words .entry)) (slot .0) ⌝ }
 {
     let s = slot.0;
-    let start = n * 2 + s as usize * 12;
-    let end = start + 12;
+    let start = n * RECORDS_AT + s as usize * RECORD_WORDS;
+    let end = start + RECORD_WORDS;
     read_record(&words[start..end])
 }
 
@@ -72,8 +36,8 @@ pub fn store_record(words: &mut [u64], n: usize, slot: NodeSlot, r: NodeRecord)
     ensures { λ _. ⌜ now (words .exit) ≡ putRecord n (now (words .entry)) (slot .0) r ⌝ }
 {
     let s = slot.0;
-    let start = n * 2 + s as usize * 12;
-    let end = start + 12;
+    let start = n * RECORDS_AT + s as usize * RECORD_WORDS;
+    let end = start + RECORD_WORDS;
     write_record(&mut words[start..end], r);
 }
 
@@ -98,7 +62,7 @@ pub fn order_word(words: &[u64], n: usize, slot: NodeSlot) -> u64
     ensures { λ r. ⌜ r ≡ orderAt n (now (words .entry)) (slot .0) ⌝ }
 {
     let s = slot.0;
-    words[n * 14 + s as usize]
+    words[n * ORDERS_AT + s as usize]
 }
 
 // A slot's position in document order. A word above 32 bits, and 4,294,967,295, are none.
@@ -119,7 +83,7 @@ pub fn put_order(words: &mut [u64], n: usize, slot: NodeSlot, key: u64)
     ensures { λ _. ⌜ now (words .exit) ≡ putOrder n (now (words .entry)) (slot .0) key ⌝ }
 {
     let s = slot.0;
-    words[n * 14 + s as usize] = key;
+    words[n * ORDERS_AT + s as usize] = key;
 }
 
 // No slot made has a position.
@@ -127,5 +91,5 @@ pub fn clear_order(words: &mut [u64], n: usize, made: usize)
     requires { ⌜ (slotsWords n ≤ length (now words)) × (made ≤ n) ⌝ }
     ensures { λ _. ⌜ now (words .exit) ≡ clearOrder n (now (words .entry)) made ⌝ }
 {
-    words::fill(words, n * 14, made, 4294967295);
+    words::fill(words, n * ORDERS_AT, made, 4294967295);
 }

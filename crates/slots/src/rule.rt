@@ -5,11 +5,11 @@ ghost use lib.ListN.{length, replicate};
 ghost use Rattle.slots.specs.Regions.{slotsWords};
 ghost use Rattle.slots.specs.FreeRule.{generations, freeStack, freeRule, Counted, marksMatch};
 ghost use Rattle.slots.specs.WordsRule.{slotWords, wordsRule};
-use crate::NodeSlot;
-use crate::decode::is_node;
 use crate::region::generation_at;
 use crate::region::load_record;
 use crate::region::order_word;
+use records::decode::is_node;
+use words::NodeSlot;
 
 // Each entry is counted in the mark of its slot. False where an entry is no slot made.
 fn count_entries(free: &[u64], made: usize, marks: &mut [u64]) -> bool

@@ -4,12 +4,12 @@ ghost use Prim.Native.Nat.{_+_, _<_, _≤_};
 ghost use lib.ListN.{length};
 ghost use Rattle.slots.specs.Regions.{slotsWords, generationAt, putGeneration};
 ghost use Rattle.slots.specs.Slots.{up, resolved, hasSlot, taken, takenGenerations, takenWords, CanTake, freedWords};
-use crate::Loaded;
-use crate::NodeId;
-use crate::NodeSlot;
 use crate::region::generation_at;
 use crate::region::load_node;
 use crate::region::put_order;
+use records::Loaded;
+use records::NodeId;
+use words::NodeSlot;
 
 // A slot that was taken, with the counts after.
 pub struct Taken {

@@ -15,18 +15,18 @@ use Rattle.blocks.specs.Arena.{Arena, Block, block, arenaOf}
 use Rattle.blocks.specs.Rule.{Shaped}
 use Rattle.blocks.specs.Claims.{claimable, claimed, blockClaimable, blockClaimed}
 use Rattle.blocks.proofs.Decision.{decided-rule, rule-decided}
-use Rattle.slots.specs.declared.Range.{Range}
+use Rattle.records.specs.declared.Range.{Range}
 use Rattle.model.specs.Kinds.{Which, children, attributes, namespaces}
 use Rattle.model.specs.Doc.{Doc, Limits, liveSlot, rangeIn}
 use Rattle.model.specs.Rules.{blockIn}
 use Rattle.model.specs.RulesTest.{allWhich, blocksHold}
-use Rattle.model.proofs.Quantifiers.{which-at, at-which}
-use Rattle.model.proofs.RulesTestBlocks.{blocks-of-test, test-of-blocks}
-use Rattle.memory.specs.declared.layout.Document.{Document}
-use Rattle.memory.specs.declared.layout.Limits as given
-use Rattle.memory.specs.declared.layout.Arena as names
-use Rattle.memory.specs.declared.layout.Arena.the-variants.{Children, Attributes, Namespaces}
-use Rattle.memory.specs.Layout.{whichOf, limitsOf, entriesOf, arenaAt, scratchWords, memoryOk, buffersOk}
+use Rattle.laws.proofs.Quantifiers.{which-at, at-which}
+use Rattle.laws.proofs.RulesTestBlocks.{blocks-of-test, test-of-blocks}
+use Rattle.layout.specs.declared.Document.{Document}
+use Rattle.layout.specs.declared.Limits as given
+use Rattle.layout.specs.declared.Arena as names
+use Rattle.layout.specs.declared.Arena.the-variants.{Children, Attributes, Namespaces}
+use Rattle.layout.specs.Layout.{whichOf, limitsOf, entriesOf, arenaAt, scratchWords, memoryOk, buffersOk}
 use Rattle.memory.specs.Decode.{blockOf, arenaPart, arenaUsed, arenaIn}
 use Rattle.memory.proofs.Columns.{length-gens, live-past}
 use Rattle.memory.proofs.Shaped.{length-ids, length-caps, shape}

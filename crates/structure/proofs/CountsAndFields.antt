@@ -14,27 +14,26 @@ use lib.Dec.{eqb, leb}
 use borrow.Author.Tests.{lt-ltb, le-ltb, ltb-true, le-leb, eq-eqb, ne-eqb, eqb-true}
 use Rattle.words.specs.Lists.{allBelow}
 use Rattle.words.proofs.Parts.{getD-part}
-use Rattle.words.proofs.Lists.{getD-tabulate}
+use Rattle.words.proofs.Lists.{getD-tabulate, allBelow-same}
 use Rattle.words.proofs.Tests.{and-left, and-right}
-use Rattle.slots.specs.Records.{isNode}
+use Rattle.records.specs.Records.{isNode}
 use Rattle.slots.specs.Regions.{generationAt, recordAt, nodeAt}
 use Rattle.slots.specs.WordsRule.{wordsRule}
 use Rattle.slots.proofs.WordsRule.{words-rule-of, of-words-rule}
-use Rattle.slots.proofs.Lists.{allBelow-same}
-use Rattle.slots.specs.declared.Parent.{Parent}
-use Rattle.slots.specs.declared.Parent.the-variants.{None, Of}
-use Rattle.slots.specs.declared.NodeId.{NodeId}
+use Rattle.records.specs.declared.Parent.{Parent}
+use Rattle.records.specs.declared.Parent.the-variants.{None, Of}
+use Rattle.records.specs.declared.NodeId.{NodeId}
 use Rattle.model.specs.Kinds.{Which, children, attributes, namespaces, isRoot}
 use Rattle.model.specs.Doc as model
 use Rattle.model.specs.Doc.{Doc, liveSlot, kindIn, parentIn, even, isSome, isNone}
 use Rattle.model.specs.RulesTest as test
 use Rattle.model.specs.RulesTest.{implies, fitsField, allSlots, allLive, allWhich, wordsWithin, oneRoot, countsAndFieldsHold}
-use Rattle.model.proofs.Basics.{live-node}
-use Rattle.model.proofs.Quantifiers.{slots-at, at-slots, implies-true, true-implies}
-use Rattle.memory.specs.declared.layout.Document.{Document}
-use Rattle.memory.specs.declared.layout.Limits as given
-use Rattle.memory.specs.declared.layout.Counts.{Counts}
-use Rattle.memory.specs.Layout.{limitsOf, entriesOf, arenaAt}
+use Rattle.laws.proofs.Basics.{live-node}
+use Rattle.laws.proofs.Quantifiers.{slots-at, at-slots, implies-true, true-implies}
+use Rattle.layout.specs.declared.Document.{Document}
+use Rattle.layout.specs.declared.Limits as given
+use Rattle.layout.specs.declared.Counts.{Counts}
+use Rattle.layout.specs.Layout.{limitsOf, entriesOf, arenaAt}
 use Rattle.memory.specs.Decode.{handleOf, countsWithin, slotsPart, slotsMade, arenaPart, arenaUsed, arenaIn}
 use Rattle.memory.proofs.Living.{node-some}
 use Rattle.memory.proofs.Counted.{counts-fit}

@@ -10,14 +10,13 @@ use lib.ListN.{length, getD}
 use lib.Dec.{eqb, ltb}
 use Rattle.words.specs.Lists.{countOf, all, allBelow, tabulate}
 use Rattle.words.proofs.Parts.{part-none}
-use Rattle.words.proofs.Lists.{countOf-append, length-tabulate, getD-tabulate}
+use Rattle.words.proofs.Lists.{countOf-append, length-tabulate, getD-tabulate, allBelow-same}
 use Rattle.slots.specs.Regions.{slotsWords, generationAt, freeAt}
 use Rattle.slots.specs.FreeRule.{generations, freeStack, areSlots, freeRule}
-use Rattle.slots.proofs.Lists.{allBelow-same}
 use Rattle.slots.proofs.Stacks.{generations-next, freeStack-next}
 use Rattle.model.specs.RulesTest.{allSlots, freeListHolds}
-use Rattle.memory.specs.declared.layout.Document.{Document}
-use Rattle.memory.specs.Layout.{memoryOk}
+use Rattle.layout.specs.declared.Document.{Document}
+use Rattle.layout.specs.Layout.{memoryOk}
 use Rattle.memory.specs.Decode.{slotsPart, slotsMade, slotsFree}
 use Rattle.memory.proofs.Shaped.{length-slotsPart}
 use Rattle.entries.specs.Nodes.{decodeNodes}

@@ -8,13 +8,13 @@ use Prim.Native.Nat.{ℕ, _%_}
 use lib.Dec.{eqb, leb}
 use borrow.Author.Tests.{eq-eqb, ne-eqb}
 use Rattle.words.specs.Lists.{allBelow}
-use Rattle.slots.specs.Handles.{wordOf}
-use Rattle.slots.specs.declared.NodeId.{NodeId}
-use Rattle.slots.specs.declared.Parent.{Parent}
-use Rattle.slots.specs.declared.Parent.the-variants.{None, Of}
+use Rattle.records.specs.Handles.{wordOf}
+use Rattle.records.specs.declared.NodeId.{NodeId}
+use Rattle.records.specs.declared.Parent.{Parent}
+use Rattle.records.specs.declared.Parent.the-variants.{None, Of}
 use Rattle.model.specs.Doc.{Doc, liveSlot, resolves, kindIn, kindAt, parentIn}
 use Rattle.model.specs.RulesTest.{allLive, parentHolds, parentsHold}
-use Rattle.memory.specs.declared.layout.Document.{Document}
+use Rattle.layout.specs.declared.Document.{Document}
 use Rattle.memory.specs.Decode.{handleOf, slotsMade}
 use Rattle.memory.proofs.Columns.{length-gens}
 use Rattle.entries.specs.Nodes.{noTexts, decodeNodes, kindNumber}

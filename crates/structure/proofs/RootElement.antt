@@ -12,21 +12,20 @@ use lib.Dec.{eqb, leb}
 use Rattle.words.specs.Parts.{part}
 use Rattle.words.specs.Lists.{all, countOf}
 use Rattle.words.proofs.Parts.{length-part, getD-part, part-none, part-snoc}
-use Rattle.words.proofs.Lists.{countOf-le, allBelow-at}
+use Rattle.words.proofs.Lists.{countOf-le, allBelow-at, countOf-snoc}
 use Rattle.words.proofs.Tests.{and-left, and-right, and-both}
 use Rattle.blocks.specs.Arena.{listOf}
 use Rattle.blocks.proofs.Capacities.{capacity-least}
-use Rattle.slots.proofs.Lists.{countOf-snoc}
-use Rattle.slots.specs.declared.Range.{Range}
+use Rattle.records.specs.declared.Range.{Range}
 use Rattle.model.specs.Kinds.{children}
 use Rattle.model.specs.Doc.{Doc, generationAt, liveSlot, resolves, kindIn, kindAt, parentIn, rangeIn, listIn, even, isSome}
 use Rattle.model.specs.Rules.{blockIn}
 use Rattle.model.specs.RulesTest.{allOption, allLive, enteredOnce, entryHolds, countsAndFieldsHold, entriesHold, blocksHold, oneRootElementHolds}
-use Rattle.model.proofs.Quantifiers.{which-at, live-at}
-use Rattle.model.proofs.RulesTestFields.{fields-of-test}
-use Rattle.model.proofs.RulesTestBlocks.{blocks-of-test}
-use Rattle.memory.specs.declared.layout.Document.{Document}
-use Rattle.memory.specs.Layout.{memoryOk}
+use Rattle.laws.proofs.Quantifiers.{which-at, live-at}
+use Rattle.laws.proofs.RulesTestFields.{fields-of-test}
+use Rattle.laws.proofs.RulesTestBlocks.{blocks-of-test}
+use Rattle.layout.specs.declared.Document.{Document}
+use Rattle.layout.specs.Layout.{memoryOk}
 use Rattle.memory.specs.Decode.{blockOf, arenaIn}
 use Rattle.memory.proofs.Shaped.{shape}
 use Rattle.entries.specs.Nodes.{noTexts, decodeNodes, kindNumber}

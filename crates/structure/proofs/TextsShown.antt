@@ -31,10 +31,10 @@ use Rattle.names.specs.declared.NameLimits.{NameLimits}
 use Rattle.names.specs.declared.NameCounts.{NameCounts}
 use Rattle.names.proofs.Words.{shown-there, shown-none}
 use Rattle.model.specs.RulesTest.{allSlots, allLive, countsWithin, wordsWithin, oneRoot, countsAndFieldsHold}
-use Rattle.memory.specs.declared.layout.Document.{Document}
-use Rattle.memory.specs.Layout.{limitsOf, textsAt, textsWords, namesAt, namesWords, memoryOk}
+use Rattle.layout.specs.declared.Document.{Document}
+use Rattle.layout.specs.Layout.{limitsOf, textsAt, textsWords, namesAt, namesWords, memoryOk}
 use Rattle.memory.specs.Decode.{textLimits, textCounts, nameLimits, nameCounts, textsPart, namesPart, poolIn, namesIn, textsAdd, namesAdd, lengthsAdd, decode}
-use Rattle.memory.proofs.Limits.{memory-long, names-next, words-next}
+use Rattle.layout.proofs.Sizes.{memory-long, names-next, words-next}
 use Rattle.memory.proofs.Shown.{names-shown}
 use Rattle.entries.specs.Nodes.{decodeNodes}
 

@@ -10,12 +10,12 @@ use lib.ListN.{length}
 use lib.Dec.{leb}
 use borrow.Author.Tests.{leb-true}
 use Rattle.words.proofs.Tests.{and-left, and-right}
-use Rattle.slots.specs.Handles.{handleIndex}
-use Rattle.slots.proofs.Lists.{allBelow-same}
+use Rattle.records.specs.Handles.{handleIndex}
+use Rattle.words.proofs.Lists.{allBelow-same}
 use Rattle.model.specs.Doc.{liveSlot, parentIn}
-use Rattle.model.specs.RulesTest.{implies, allOption, allSlots, allLive, countsAndFieldsHold, freeListHolds, parentHolds, parentsHold, endsWithin, entriesHold, arenaHolds, blocksHold, parentsEndHolds, oneRootElementHolds, textsHold, rulesHold}
-use Rattle.memory.specs.declared.layout.Document.{Document}
-use Rattle.memory.specs.Layout.{limitsOf, scratchWords, memoryOk, buffersOk}
+use Rattle.model.specs.RulesTest.{implies, allOption, allSlots, allLive, countsAndFieldsHold, freeListHolds, parentHolds, parentsHold, endsWithin, entriesHold, arenaHolds, blocksHold, parentsEndHolds, oneRootElementHolds, textsHold, eightHold, rulesHold}
+use Rattle.layout.specs.declared.Document.{Document}
+use Rattle.layout.specs.Layout.{limitsOf, scratchWords, memoryOk, buffersOk}
 use Rattle.memory.specs.Decode.{slotsMade, lengthsAdd, decode}
 use Rattle.entries.specs.Nodes.{decodeNodes}
 use Rattle.structure.specs.Tests.{onlyRoot, fieldsFit, eachHolds}
@@ -142,7 +142,7 @@ module _ (d : Document) (mem : List ℕ) (ok : memoryOk d (length mem) ≡ true)
       && blocksHold (decode d mem) && parentsEndHolds (decode d mem) && oneRootElementHolds (decode d mem)
 
   rules-are : ((fieldsFit d mem && freeListHolds (decodeNodes d mem)) && eachHolds d mem && links) ≡ rulesHold (decode d mem)
-  unfolding eachHolds rulesHold
+  unfolding eachHolds rulesHold eightHold
   rules-are = go (lengthsAdd d mem) refl
     where
       broken : (a b c : Bool) → (a && (b && false) && c) ≡ false

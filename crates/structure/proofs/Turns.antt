@@ -11,19 +11,18 @@ use borrow.Author.Tests.{le-leb}
 use Rattle.words.specs.Parts.{part, put}
 use Rattle.words.specs.Lists.{allBelow}
 use Rattle.words.proofs.Parts.{lent, returned, length-part, length-put, part-put-same, part-put-before, part-put-after}
-use Rattle.words.proofs.Lists.{allBelow-at}
+use Rattle.words.proofs.Lists.{allBelow-at, allBelow-next}
 use Rattle.words.proofs.Tests.{and-left, and-right}
 use Rattle.blocks.specs.Arena.{block, capOf}
 use Rattle.blocks.specs.Claims.{claimable, claimed, blockClaimable, blockClaimed, marksAfter, allClaimable}
 use Rattle.blocks.proofs.Claimable.{claimable-fits, claimed-met, claimed-refused}
-use Rattle.slots.proofs.Lists.{allBelow-next}
 use Rattle.model.specs.Kinds.{Which, children, attributes, namespaces}
 use Rattle.model.specs.Doc.{Doc, liveSlot}
 use Rattle.model.specs.Rules.{blockIn, heldIn}
 use Rattle.model.specs.RulesTest.{allWhich, parentsHold, blocksHold}
-use Rattle.model.proofs.Quantifiers.{which-at, at-which}
-use Rattle.memory.specs.declared.layout.Document.{Document}
-use Rattle.memory.specs.Layout.{limitsOf, scratchWords, memoryOk}
+use Rattle.laws.proofs.Quantifiers.{which-at, at-which}
+use Rattle.layout.specs.declared.Document.{Document}
+use Rattle.layout.specs.Layout.{limitsOf, scratchWords, memoryOk}
 use Rattle.memory.specs.Decode.{countsWithin, slotsMade, arenaUsed, arenaIn}
 use Rattle.memory.proofs.Columns.{length-gens}
 use Rattle.entries.specs.Nodes.{noTexts, decodeNodes}

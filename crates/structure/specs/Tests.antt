@@ -11,8 +11,8 @@ use Rattle.model.specs.Kinds.{Which, isElement, isRoot}
 use Rattle.model.specs.Doc.{Doc, generationAt, liveSlot, kindIn, kindAt, parentIn, isNone, anyOption}
 use Rattle.model.specs.Rules.{blockIn}
 use Rattle.model.specs.RulesTest.{implies, fitsField, allWhich, allLive, parentHolds, parentsHold, blocksHold, textsHold}
-use Rattle.memory.specs.declared.layout.Document.{Document}
-use Rattle.memory.specs.Layout.{limitsOf}
+use Rattle.layout.specs.declared.Document.{Document}
+use Rattle.layout.specs.Layout.{limitsOf}
 use Rattle.memory.specs.Decode.{countsWithin, decode}
 use Rattle.entries.specs.Nodes.{decodeNodes, wordsHold}
 

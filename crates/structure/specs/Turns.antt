@@ -12,8 +12,8 @@ use Rattle.model.specs.Kinds.{Which}
 use Rattle.model.specs.Doc.{Doc}
 use Rattle.model.specs.Rules.{blockIn, heldIn}
 use Rattle.model.specs.RulesTest.{allWhich}
-use Rattle.memory.specs.declared.layout.Document.{Document}
-use Rattle.memory.specs.Layout.{limitsOf}
+use Rattle.layout.specs.declared.Document.{Document}
+use Rattle.layout.specs.Layout.{limitsOf}
 use Rattle.memory.specs.Decode.{slotsMade, arenaUsed, arenaIn}
 use Rattle.entries.specs.Nodes.{decodeNodes}
 use Rattle.entries.specs.Marks.{Counted, Adds, Pass, gathered}

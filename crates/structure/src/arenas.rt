@@ -7,17 +7,17 @@ ghost use Rattle.words.specs.Parts.{part, put};
 ghost use Rattle.blocks.specs.Arena.{block, arenaOf};
 ghost use Rattle.model.specs.Doc.{limitsOk, liveSlot};
 ghost use Rattle.model.specs.Rules.{blockIn};
-ghost use Rattle.memory.specs.Layout.{limitsOf, whichOf, buffersOk};
+ghost use Rattle.layout.specs.Layout.{limitsOf, whichOf, buffersOk};
 ghost use Rattle.memory.specs.Decode.{arenaUsed, arenaIn};
 ghost use Rattle.entries.specs.Nodes.{decodeNodes};
 ghost use Rattle.structure.specs.Scratch.{marksAt};
 ghost use Rattle.structure.specs.Turns.{Claim};
 use entries::nodes::block_of;
-use memory::layout::Arena;
-use memory::layout::Document;
-use memory::layout::Limits;
-use memory::layout::arena_at;
-use memory::layout::arena_limit;
+use layout::Arena;
+use layout::Document;
+use layout::Limits;
+use layout::arena_at;
+use layout::arena_limit;
 use memory::read::arena_used;
 
 // Where the marks of an arena lie in scratch: behind four words a node, one arena after another.

@@ -4,7 +4,7 @@ ghost use mathlib.Core.Bool.{true, _&&_};
 ghost use Prim.Native.Nat.{_≤_};
 ghost use lib.ListN.{length, replicate};
 ghost use Rattle.model.specs.RulesTest.{countsAndFieldsHold, freeListHolds, parentsHold, entriesHold, blocksHold, parentsEndHolds, oneRootElementHolds, rulesHold};
-ghost use Rattle.memory.specs.Layout.{memoryOk, buffersOk};
+ghost use Rattle.layout.specs.Layout.{memoryOk, buffersOk};
 ghost use Rattle.memory.specs.Decode.{slotsMade, decode};
 ghost use Rattle.entries.specs.Nodes.{decodeNodes, wordsHold};
 ghost use Rattle.structure.specs.Tests.{fieldsFit, eachHolds};
@@ -15,7 +15,7 @@ use crate::pool::check_pool;
 use crate::root::check_root_element;
 use entries::node_lists::check_entries;
 use entries::node_paths::check_paths;
-use memory::layout::Document;
+use layout::Document;
 use memory::read::made;
 
 // Rules 1 and 2, which read the slots and the free list; but for other Roots, which the pass over the slots tests.

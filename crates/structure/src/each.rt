@@ -5,7 +5,7 @@ ghost use mathlib.Core.Bool.{true};
 ghost use Prim.Native.Nat.{_<_, _≤_};
 ghost use lib.ListN.{length};
 ghost use Rattle.model.specs.Doc.{limitsOk, liveSlot};
-ghost use Rattle.memory.specs.Layout.{limitsOf, scratchWords, memoryOk, buffersOk};
+ghost use Rattle.layout.specs.Layout.{limitsOf, scratchWords, memoryOk, buffersOk};
 ghost use Rattle.memory.specs.Decode.{slotsMade};
 ghost use Rattle.entries.specs.Nodes.{decodeNodes, wordsHold};
 ghost use Rattle.structure.specs.Tests.{rootTest};
@@ -17,8 +17,8 @@ use crate::pool::clear_texts;
 use crate::pool::count_fields;
 use entries::nodes::is_live;
 use entries::nodes::kind_of;
-use memory::layout::Arena;
-use memory::layout::Document;
+use layout::Arena;
+use layout::Document;
 use memory::read::made;
 
 // A live Root stands in slot 0.

@@ -5,23 +5,23 @@ ghost use lib.ListN.{length};
 ghost use Rattle.slots.specs.WordsRule.{wordsRule};
 ghost use Rattle.model.specs.Kinds.{isRoot};
 ghost use Rattle.model.specs.Doc.{liveSlot, kindIn, parentIn, isNone};
-ghost use Rattle.memory.specs.Layout.{limitsOf, whichOf, memoryOk};
+ghost use Rattle.layout.specs.Layout.{limitsOf, whichOf, memoryOk};
 ghost use Rattle.memory.specs.Decode.{countsWithin, slotsPart, slotsMade};
 ghost use Rattle.entries.specs.Nodes.{decodeNodes, wordsHold};
 ghost use Rattle.structure.specs.Tests.{capacitiesFit, arenasFit, rootStands, fieldsFit};
 use entries::nodes::kind_of;
 use entries::nodes::parent_of;
-use memory::layout::Arena;
-use memory::layout::Counts;
-use memory::layout::Document;
-use memory::layout::Limits;
-use memory::layout::arena_at;
-use memory::layout::arena_limit;
+use layout::Arena;
+use layout::Counts;
+use layout::Document;
+use layout::Limits;
+use layout::arena_at;
+use layout::arena_limit;
 use memory::read::arena_used;
 use memory::read::generation;
 use memory::read::made;
-use slots::NodeSlot;
-use slots::Parent;
+use records::Parent;
+use words::NodeSlot;
 
 // A call in place of &&: no branch stands between the tests.
 fn both(a: bool, b: bool) -> bool

@@ -4,7 +4,7 @@ ghost use mathlib.Core.Bool.{true, _&&_};
 ghost use lib.ListN.{length};
 ghost use Rattle.model.specs.Doc.{liveSlot, resolves, kindAt, parentIn};
 ghost use Rattle.model.specs.RulesTest.{parentHolds};
-ghost use Rattle.memory.specs.Layout.{memoryOk};
+ghost use Rattle.layout.specs.Layout.{memoryOk};
 ghost use Rattle.entries.specs.Nodes.{decodeNodes, wordsHold, kindNumber};
 ghost use Rattle.structure.specs.Tests.{ownsNumber};
 use crate::node::is_child;
@@ -12,8 +12,8 @@ use crate::node::may_own;
 use entries::nodes::is_current;
 use entries::nodes::kind_of;
 use entries::nodes::parent_of;
-use memory::layout::Document;
-use slots::Parent;
+use layout::Document;
+use records::Parent;
 
 // Whether a handle resolves, to a node that may be the parent of one of this kind.
 fn owner_fits(d: Document, mem: &[u64], handle: u64, kind: u64) -> bool
@@ -37,6 +37,6 @@ pub fn parent_fits(d: Document, mem: &[u64], s: usize) -> bool
     let parent = parent_of(d, mem, s);
     match parent {
         Parent::None => is_child(kind),
-        Parent::Of(id) => owner_fits(d, mem, slots::handle::word_of(id), kind),
+        Parent::Of(id) => owner_fits(d, mem, records::handle::word_of(id), kind),
     }
 }

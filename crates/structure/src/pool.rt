@@ -6,7 +6,7 @@ ghost use lib.ListN.{length, replicate};
 ghost use Rattle.words.specs.Parts.{put};
 ghost use Rattle.model.specs.Doc.{limitsOk, liveSlot};
 ghost use Rattle.model.specs.Rules.{heldIn};
-ghost use Rattle.memory.specs.Layout.{limitsOf, buffersOk};
+ghost use Rattle.layout.specs.Layout.{limitsOf, buffersOk};
 ghost use Rattle.memory.specs.Decode.{countsWithin, slotsMade};
 ghost use Rattle.entries.specs.Nodes.{decodeNodes};
 ghost use Rattle.entries.specs.Marks.{Counted, gathered};
@@ -15,8 +15,8 @@ ghost use Rattle.structure.specs.Scratch.{textMarksAt};
 ghost use Rattle.structure.specs.Turns.{textMarks, Fields};
 use entries::node_texts::check_texts;
 use entries::node_texts::count_node;
-use memory::layout::Document;
-use memory::layout::Limits;
+use layout::Document;
+use layout::Limits;
 
 // Where the marks of the text slots lie in scratch: behind those of the arenas.
 fn marks_at(l: Limits) -> usize

@@ -8,14 +8,14 @@ ghost use Rattle.blocks.specs.Arena.{block, listOf};
 ghost use Rattle.model.specs.Kinds.{children};
 ghost use Rattle.model.specs.Doc.{resolves};
 ghost use Rattle.model.specs.RulesTest.{countsAndFieldsHold, entryHolds, entriesHold, blocksHold, oneRootElementHolds};
-ghost use Rattle.memory.specs.Layout.{memoryOk};
+ghost use Rattle.layout.specs.Layout.{memoryOk};
 ghost use Rattle.memory.specs.Decode.{arenaIn};
 ghost use Rattle.entries.specs.Nodes.{decodeNodes};
 ghost use Rattle.structure.specs.Tests.{elementTest};
 use entries::nodes::block_of;
 use entries::nodes::kind_of;
-use memory::layout::Arena;
-use memory::layout::Document;
+use layout::Arena;
+use layout::Document;
 use memory::read::entry;
 
 // Whether a handle that resolves is an element's.

@@ -24,7 +24,7 @@ use Rattle.texts.specs.Rule.{FreeTexts}
 use Rattle.texts.specs.Words.{bytesAt, poolOf, Counted, PoolHeld, countsFit, rewritten, StoredTo, ReplacedTo}
 use Rattle.texts.specs.declared.TextLimits.{TextLimits}
 use Rattle.texts.specs.declared.TextCounts.{TextCounts}
-use Rattle.texts.specs.declared.edits.TextField.the-variants.{Nothing, Slot}
+use Rattle.texts.specs.declared.storing.TextField.the-variants.{Nothing, Slot}
 use Rattle.texts.proofs.Lists.{reverse-snoc}
 use Rattle.texts.proofs.Pool.{first-there, stored-empty, stored-new, stored-reused, storedSlot-new, storedSlot-reused}
 use Rattle.texts.proofs.Words.{lengths-add, pool-slots, text-ends, text-length}
@@ -116,7 +116,7 @@ module _ (limits : TextLimits) (counts : TextCounts) (words : List ℕ) (held : 
     reusedCounts n = record { slots = counts .slots; free = counts .free - 1; bytes = counts .bytes + n }
 
     pub reused-to : (t after : List ℕ) → 0 < length t → counts .bytes + length t ≤ limits .bytes → after ≡ rewritten limits counts words top t
-        → StoredTo limits counts words after t (record { field = Slot top; counts = reusedCounts (length t) })
+        → StoredTo limits counts words after t (record { field = Slot (record { 0 = top }); counts = reusedCounts (length t) })
     reused-to [] after n f e = absurd (omega arith)
     reused-to (b ∷ t) after n f e =
         rw e
@@ -220,7 +220,7 @@ module _ (limits : TextLimits) (counts : TextCounts) (words : List ℕ) (held : 
           λ i. record { texts = p i; free = q i }
 
     pub new-to : (t after : List ℕ) → 0 < length t → counts .bytes + length t ≤ limits .bytes → after ≡ laid t
-        → StoredTo limits counts words after t (record { field = Slot (counts .slots); counts = newCounts (length t) })
+        → StoredTo limits counts words after t (record { field = Slot (record { 0 = counts .slots }); counts = newCounts (length t) })
     new-to [] after n f e = absurd (omega arith)
     new-to (b ∷ t) after n f e =
         rw e

@@ -5,6 +5,3 @@ pub mod Lists
 pub mod Words
 pub mod Written
 pub mod Held
-pub mod Laid
-pub mod Gaps
-pub mod Released

@@ -13,9 +13,9 @@ use Rattle.words.specs.declared.ends.Place.{Place}
 use Rattle.words.specs.Ends.{startOf, lengthOf, lengthsOf, endsOf, endsReach, movedEnd, piecePlace, pieceShown}
 use Rattle.texts.specs.Pool.{Pool, bytesOf, storedSlot, stored, replaced, pushed, reclaimed}
 use Rattle.texts.specs.Rule.{FreeTexts}
-use Rattle.texts.specs.declared.edits.Stored.{Stored}
-use Rattle.texts.specs.declared.edits.TextField.{TextField}
-use Rattle.texts.specs.declared.edits.TextField.the-variants.{Nothing, Slot}
+use Rattle.texts.specs.declared.storing.Stored.{Stored}
+use Rattle.texts.specs.declared.storing.TextField.{TextField}
+use Rattle.texts.specs.declared.storing.TextField.the-variants.{Nothing, Slot}
 use Rattle.texts.specs.declared.TextLimits.{TextLimits}
 use Rattle.texts.specs.declared.TextCounts.{TextCounts}
 
@@ -110,7 +110,7 @@ rewritten limits counts words slot t = put (startAt limits words slot) t (roomed
 -- a text field as the code answers it
 abbrev pub fieldOf : TextField → Option ℕ
 fieldOf Nothing = none
-fieldOf (Slot s) = some s
+fieldOf (Slot s) = some (s .0)
 
 pub record StoredTo (limits : TextLimits) (counts : TextCounts) (words after t : List ℕ) (r : Stored) : Type 0 where
   pub field : fieldOf (r .field) ≡ storedSlot (poolOf limits counts words) t

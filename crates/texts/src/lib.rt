@@ -3,10 +3,10 @@ ghost use mathlib.Core.Path.{_≡_};
 ghost use Prim.Native.Nat.{_+_, _≤_};
 ghost use lib.ListN.{length};
 ghost use Rattle.texts.specs.Words.{bytesAt, placeShown, textShown, countsFit};
+use words::TextSlot;
 
 pub mod check;
-pub mod edits;
-pub mod release;
+pub mod storing;
 
 // How many text slots, and how many bytes of texts, there may be.
 pub struct TextLimits {
@@ -26,24 +26,26 @@ pub fn text_place(
     words: &[u64],
     limits: TextLimits,
     counts: TextCounts,
-    slot: usize,
+    slot: TextSlot,
 ) -> words::ends::Place
     requires { ⌜ length (now words) ≡ bytesAt limits + limits .bytes ⌝ }
-    ensures { λ r. ⌜ r ≡ placeShown limits counts slot (now (words .entry)) ⌝ }
+    ensures { λ r. ⌜ r ≡ placeShown limits counts (slot .0) (now (words .entry)) ⌝ }
 {
+    let s = slot.0;
     let n = words::least(counts.slots, limits.slots);
     let used = words::least(counts.bytes, limits.bytes);
-    words::ends::locate(words, n, used, slot)
+    words::ends::locate(words, n, used, s as usize)
 }
 
 // Its bytes, as a part of the pool.
-pub fn read_text(words: &[u64], limits: TextLimits, counts: TextCounts, slot: usize) -> &[u64]
+pub fn read_text(words: &[u64], limits: TextLimits, counts: TextCounts, slot: TextSlot) -> &[u64]
     requires { ⌜ length (now words) ≡ bytesAt limits + limits .bytes ⌝ }
-    ensures { λ r. ⌜ now r ≡ textShown limits counts slot (now (words .entry)) ⌝ }
+    ensures { λ r. ⌜ now r ≡ textShown limits counts (slot .0) (now (words .entry)) ⌝ }
 {
+    let s = slot.0;
     let n = words::least(counts.slots, limits.slots);
     let used = words::least(counts.bytes, limits.bytes);
-    words::ends::piece(words, limits.slots + limits.slots, n, used, slot)
+    words::ends::piece(words, limits.slots + limits.slots, n, used, s as usize)
 }
 
 // Whether k more text slots, and the bytes once off are given back and on added, are within the limits.

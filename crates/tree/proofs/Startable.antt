@@ -12,12 +12,12 @@ use borrow.Author.Tests.{leb-true}
 use Rattle.words.proofs.Tests.{and-left, and-right}
 use Rattle.model.specs.Doc.{limitsOk}
 use Rattle.model.specs.Calls.{done, refused}
-use Rattle.memory.specs.declared.layout.Document.{Document}
-use Rattle.memory.specs.declared.layout.Limits as given
-use Rattle.memory.specs.Layout.{limitsOf, documentWords, memoryOk}
-use Rattle.memory.proofs.Limits.{limits-fit}
+use Rattle.layout.specs.declared.Document.{Document}
+use Rattle.layout.specs.declared.Limits as given
+use Rattle.layout.specs.Layout.{limitsOf, documentWords, memoryOk}
+use Rattle.layout.specs.Record.{freshRecord}
+use Rattle.layout.proofs.Sizes.{limits-fit}
 use Rattle.tree.specs.Contract.{startable, Starts}
-use Rattle.tree.specs.Answers.{freshRecord}
 use Rattle.tree.proofs.Zeros.{decode-zeros}
 
 module _ (l : given.Limits) (mem : List ℕ) where

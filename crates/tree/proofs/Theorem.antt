@@ -2,7 +2,7 @@
 -- Assumes nothing.
 use mathlib.Core.Path.{_≡_, refl, sym, ap, _∙_, subst}
 use mathlib.Core.Logic.{_≢_, _⊎_, inl, inr}
-use mathlib.Core.Bool.{Bool, true, false, _&&_, _||_, cond, false≢true, true≢false}
+use mathlib.Core.Bool.{Bool, true, false, _&&_, cond, false≢true, true≢false}
 use mathlib.Core.List.{List, [], _∷_}
 use Prim.Native.Nat.{ℕ, _<_}
 use native.Mathlib.Omega.{arith}
@@ -18,28 +18,28 @@ use Rattle.model.specs.Calls as calls
 use Rattle.model.specs.RulesTest.{rulesHold}
 use Rattle.model.specs.Tree.{Tree, seed}
 use Rattle.model.specs.Tree as tree
-use Rattle.model.specs.Claim.{Agrees, Explains, isFull, handleTold}
-use Rattle.model.specs.Claim as model
-use Rattle.model.proofs.Wf.{WF}
-use Rattle.model.proofs.Sim.{Sim}
-use Rattle.model.proofs.SimSeed.{sim-seed}
-use Rattle.model.proofs.WfEdits.{wf-seed}
-use Rattle.model.proofs.RulesOfSim.{rules-of-sim}
-use Rattle.model.proofs.RulesTest.{test-of-rules}
-use Rattle.model.proofs.Explained.{explains}
-use Rattle.model.proofs.Refusals as refusals
-use Rattle.model.proofs.RefusalNumbers.{Tested, tested}
-use Rattle.model.proofs.Runs.{next}
-use Rattle.model.proofs.Theorem.{one-call}
-use Rattle.model.proofs.Told as given-told
-use Rattle.memory.specs.declared.layout.Document.{Document}
-use Rattle.memory.specs.declared.layout.Limits as given
-use Rattle.memory.specs.Layout.{limitsOf, documentWords, memoryOk, buffersOk}
+use Rattle.laws.specs.Claim.{Agrees, Explains, noStep, handleTold}
+use Rattle.laws.specs.Claim as model
+use Rattle.laws.proofs.Wf.{WF}
+use Rattle.laws.proofs.Sim.{Sim}
+use Rattle.laws.proofs.SimSeed.{sim-seed}
+use Rattle.laws.proofs.WfEdits.{wf-seed}
+use Rattle.laws.proofs.RulesOfSim.{rules-of-sim}
+use Rattle.laws.proofs.RulesTest.{test-of-rules}
+use Rattle.laws.proofs.Explained.{explains}
+use Rattle.laws.proofs.Refusals as refusals
+use Rattle.laws.proofs.RefusalNumbers.{Tested, tested}
+use Rattle.laws.proofs.Runs.{next}
+use Rattle.laws.proofs.Theorem.{one-call}
+use Rattle.laws.proofs.Told as given-told
+use Rattle.layout.specs.declared.Document.{Document}
+use Rattle.layout.specs.declared.Limits as given
+use Rattle.layout.specs.Layout.{limitsOf, documentWords, memoryOk, buffersOk}
 use Rattle.memory.specs.Decode.{decode}
 use Rattle.reading.specs.Contract.{reads}
 use Rattle.editing.specs.Contract.{isEditing, outcome, Edits}
 use Rattle.tree.specs.Contract.{startable, Starts}
-use Rattle.tree.specs.Claim.{Event, Promised, PromisedBy, Called, noStep, treeAfter, outOf, Tells, lastRecord, lastMemory, treeEnd, Holds, PlainTree, DemandThree}
+use Rattle.tree.specs.Claim.{Event, Promised, PromisedBy, Called, treeAfter, outOf, Tells, lastRecord, lastMemory, treeEnd, Holds, PlainTree, DemandThree}
 
 -- a reading call leaves the document
 reading-keeps : (c : Call) (d : Doc) → isEditing c ≡ false → step c d .doc ≡ d
@@ -72,20 +72,6 @@ reading-keeps (order-key h) d e = refl
 -- a handle of the call is stale
 abbrev StaleIn : Doc → Call → Type 0
 StaleIn D c = all (resolves D) (handlesOf c) ≡ false
-
--- past test 4, no step is the same as Full
-tested-step : (S : Type 0) (a : Answered) → Tested S a → noStep a ≡ isFull a
-tested-step S (refused n) t = ap (λ (q : Bool). q || eqb n 14) (ne-eqb n 4 (t .0))
-tested-step S calls.done t = refl
-tested-step S (calls.made h) t = refl
-tested-step S (calls.truth b) t = refl
-tested-step S (calls.node h) t = refl
-tested-step S (calls.listed r l) t = refl
-tested-step S (calls.everyNode l) t = refl
-tested-step S (calls.kindIs k a n) t = refl
-tested-step S (calls.nameIs n) t = refl
-tested-step S (calls.key k) t = refl
-tested-step S (calls.keys l) t = refl
 
 not-damaged : (S : Type 0) (a : Answered) → Tested S a → a ≢ refused 5
 not-damaged S (refused n) t e = t .1 (let q : n ≡ 5 = cc in q)
@@ -206,7 +192,7 @@ module _ (hs : ℕ → ℕ) where
       go (stepped o k) =
           let a : e .answer ≡ step (e .call) D .answer = ap (λ (x : calls.Out). x .answer) o in
           let T = tested (e .call) D in
-          let s : noStep (e .answer) ≡ isFull (step (e .call) D .answer) = ap noStep a ∙ tested-step (StaleIn D (e .call)) (step (e .call) D .answer) T in
+          let s : noStep (e .answer) ≡ noStep (step (e .call) D .answer) = ap noStep a in
           let u : treeAfter hs e t ≡ model.treeAfter hs (e .call) D t = ap (λ (q : Bool). cond q t (tree.step (e .call) hs t .tree)) s in
           let h : t .births < model.treeAfter hs (e .call) D t .births → hs (t .births) ≡ handleTold (e .call) (step (e .call) D) =
           λ lt. told (subst (λ (x : Tree). t .births < x .births) (sym u) lt) ∙ ap (handleTold (e .call)) o in
@@ -288,7 +274,7 @@ module _ (hs : ℕ → ℕ) where
       go (stepped q k) o rest =
           let a : e .answer ≡ step (e .call) D .answer = ap (λ (x : calls.Out). x .answer) q in
           let T = tested (e .call) D in
-          let s : noStep (e .answer) ≡ isFull (step (e .call) D .answer) = ap noStep a ∙ tested-step (StaleIn D (e .call)) (step (e .call) D .answer) T in
+          let s : noStep (e .answer) ≡ noStep (step (e .call) D .answer) = ap noStep a in
           let u : treeAfter hs e t ≡ model.treeAfter hs (e .call) D t = ap (λ (x : Bool). cond x t (tree.step (e .call) hs t .tree)) s in
           let f : isFour (e .answer) ≡ false = ap isFour a ∙ tested-four (StaleIn D (e .call)) (step (e .call) D .answer) T in
           let o′ : model.Tells hs (e .call ∷ callsOf es) D t = subst (λ (x : Bool). model.Tells hs (cond x (callsOf es) (e .call ∷ callsOf es)) D t) f o in

@@ -16,21 +16,21 @@ use Rattle.words.specs.Lists.{tabulate}
 use Rattle.words.proofs.Parts.{part-none, replicate-snoc}
 use Rattle.blocks.specs.Arena.{block, arenaOf, freshArena}
 use Rattle.slots.specs.Regions.{slotsWords, generationAt, freeAt, nodeAt, orderAt}
-use Rattle.slots.specs.Records.{zeroRoot}
-use Rattle.slots.specs.declared.Loaded.the-variants.{Found}
-use Rattle.slots.proofs.Lists.{part-replicate}
+use Rattle.records.specs.Records.{zeroRoot}
+use Rattle.records.specs.declared.Loaded.the-variants.{Found}
+use Rattle.words.proofs.Lists.{part-replicate}
 use Rattle.slots.proofs.Regions.{generationAt-zero, orderAt-zero, nodeAt-zero}
 use Rattle.texts.specs.Words.{textShown}
 use Rattle.names.specs.Words.{nameShown}
 use Rattle.model.specs.Kinds.{root, Which, children, attributes, namespaces}
-use Rattle.model.specs.Doc.{limitsOk, fresh}
-use Rattle.memory.specs.declared.layout.Document.{Document}
-use Rattle.memory.specs.declared.layout.Limits as given
-use Rattle.memory.specs.Layout.{limitsOf, arenaWords, arenaAt, documentWords}
+use Rattle.model.specs.Doc.{limitsOk, fresh, columns}
+use Rattle.layout.specs.declared.Document.{Document}
+use Rattle.layout.specs.declared.Limits as given
+use Rattle.layout.specs.Layout.{limitsOf, arenaWords, arenaAt, documentWords}
 use Rattle.memory.specs.Decode.{kindLoaded, parentLoaded, rangeLoaded, loadedAt, countsWithin, slotsPart, arenaPart, slotsMade, textLimits, textCounts, textsPart, nameLimits, nameCounts, namesPart, lengthsAdd, decode}
-use Rattle.memory.proofs.Limits.{limits-fit, arena-inside, names-next, words-next}
-use Rattle.reading.proofs.Lists.{part-take}
-use Rattle.tree.specs.Answers.{freshRecord}
+use Rattle.layout.specs.Record.{freshRecord}
+use Rattle.layout.proofs.Sizes.{limits-fit, arena-inside, names-next, words-next}
+use Rattle.memory.proofs.Shaped.{part-take}
 
 -- ---- lists
 
@@ -69,7 +69,7 @@ module _ (l : given.Limits) (ok : limitsOk (limitsOf l) ≡ true) (mem : List �
   -- each region is zero
   region : (p k : ℕ) → p + k ≤ documentWords (limitsOf l) → part p k mem ≡ replicate k 0
   region p k h =
-      sym (part-take mem (documentWords (limitsOf l)) p k h)
+      sym (part-take mem p k (documentWords (limitsOf l)) h)
       ∙ ap (part p k) zeros
       ∙ part-replicate p k (documentWords (limitsOf l)) 0 h
 
@@ -133,24 +133,24 @@ module _ (l : given.Limits) (ok : limitsOk (limitsOf l) ≡ true) (mem : List �
   arenas-zero namespaces = zero-at namespaces
 
   pub decode-zeros : decode (freshRecord l) mem ≡ fresh (limitsOf l)
-  decode-zeros = λ i. record {
-    limits = limitsOf l;
-    gens = column (generationAt n w) 0 generation i;
-    free = ap (λ (k : ℕ). reverse (tabulate (freeAt n w) k)) (no-count n) i;
-    kinds = column (λ s. kindLoaded (loadedAt n w s)) (some root) (ap kindLoaded loaded) i;
-    parents = column (λ s. parentLoaded (loadedAt n w s)) none (ap parentLoaded loaded) i;
-    ranges = λ a. column (λ s. rangeLoaded a (loadedAt n w s)) (block 0 0) (range a) i;
-    arenas = λ a. arenas-zero a i;
-    order = orders i;
-    current = true;
-    pool = record {
-      texts = ap (tabulate (λ s. textShown (textLimits d) (textCounts d) s (textsPart d mem))) (no-count (l .texts)) i;
-      free = (ap (λ (k : ℕ). reverse (part (l .texts) k (textsPart d mem))) (no-count (l .texts)) ∙ ap reverse (part-none (textsPart d mem) (l .texts))) i;
-    };
-    names = ap (tabulate (λ s. nameShown (nameLimits d) (nameCounts d) s (namesPart d mem))) (no-count (l .names)) i;
-    countsFit = counts-fit i;
-    lengthsFit = lengths-add i;
-  }
+  decode-zeros = λ i.
+      columns
+      (limitsOf l)
+      (column (generationAt n w) 0 generation i)
+      (ap (λ (k : ℕ). reverse (tabulate (freeAt n w) k)) (no-count n) i)
+      (column (λ s. kindLoaded (loadedAt n w s)) (some root) (ap kindLoaded loaded) i)
+      (column (λ s. parentLoaded (loadedAt n w s)) none (ap parentLoaded loaded) i)
+      (λ a. column (λ s. rangeLoaded a (loadedAt n w s)) (block 0 0) (range a) i)
+      (λ a. arenas-zero a i)
+      (orders i)
+      true
+      (record {
+        texts = ap (tabulate (λ s. textShown (textLimits d) (textCounts d) s (textsPart d mem))) (no-count (l .texts)) i;
+        free = (ap (λ (k : ℕ). reverse (part (l .texts) k (textsPart d mem))) (no-count (l .texts)) ∙ ap reverse (part-none (textsPart d mem) (l .texts))) i;
+      })
+      (ap (tabulate (λ s. nameShown (nameLimits d) (nameCounts d) s (namesPart d mem))) (no-count (l .names)) i)
+      (counts-fit i)
+      (lengths-add i)
     where
       range : (a : Which) → rangeLoaded a (loadedAt n w 0) ≡ block 0 0
       range children = ap (rangeLoaded children) loaded

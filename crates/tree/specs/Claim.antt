@@ -1,19 +1,18 @@
 -- Demand 3: one claim about every list of the editing and reading calls, over what their contracts promise. The plain tree is
--- `Rattle.model.specs.Tree`; how answers are compared, and what holds of a document that a tree explains, is in `Rattle.model.specs.Claim`.
+-- `Rattle.model.specs.Tree`; how answers are compared, and what holds of a document that a tree explains, is in `Rattle.laws.specs.Claim`.
 use mathlib.Core.Path.{_≡_}
 use mathlib.Core.Logic.{_≢_, _⊎_}
-use mathlib.Core.Bool.{Bool, true, false, _||_, cond}
+use mathlib.Core.Bool.{Bool, true, false, cond}
 use mathlib.Core.List.{List, [], _∷_}
 use Prim.Native.Nat.{ℕ, _<_}
-use lib.Dec.{eqb}
 use Rattle.model.specs.Doc.{rootHandle}
 use Rattle.model.specs.Calls.{Call, nodes, Answered, refused, done, answers}
 use Rattle.model.specs.Calls as calls
 use Rattle.model.specs.Tree.{Tree, seed}
 use Rattle.model.specs.Tree as tree
-use Rattle.model.specs.Claim.{Agrees, Explains, handleTold}
-use Rattle.memory.specs.declared.layout.Document.{Document}
-use Rattle.memory.specs.declared.layout.Limits as given
+use Rattle.laws.specs.Claim.{Agrees, Explains, noStep, handleTold}
+use Rattle.layout.specs.declared.Document.{Document}
+use Rattle.layout.specs.declared.Limits as given
 use Rattle.memory.specs.Decode.{decode}
 use Rattle.reading.specs.Contract.{reads}
 use Rattle.editing.specs.Contract.{isEditing, Edits}
@@ -45,20 +44,6 @@ Called d mem [] = Unit {0}
 Called d mem (e ∷ es) = Promised d mem e × Called (e .document) (e .memory) es
 
 -- ---- the plain tree beside it
-
--- "Calls refused BadBuffers or Full are no step of the plain tree"
-abbrev pub noStep : Answered → Bool
-noStep (refused n) = eqb n 4 || eqb n 14
-noStep calls.done = false
-noStep (calls.made h) = false
-noStep (calls.truth b) = false
-noStep (calls.node h) = false
-noStep (calls.listed r l) = false
-noStep (calls.everyNode l) = false
-noStep (calls.kindIs k a n) = false
-noStep (calls.nameIs n) = false
-noStep (calls.key k) = false
-noStep (calls.keys l) = false
 
 abbrev pub treeAfter : (ℕ → ℕ) → Event → Tree → Tree
 treeAfter hs e t = cond (noStep (e .answer)) t (tree.step (e .call) hs t .tree)

@@ -8,9 +8,9 @@ use lib.Dec.{leb}
 use lib.ListN.{length, take, drop, replicate}
 use Rattle.model.specs.Doc.{limitsOk, fresh}
 use Rattle.model.specs.Calls.{Answered, refused, done, isRefusal}
-use Rattle.memory.specs.declared.layout.Document.{Document}
-use Rattle.memory.specs.declared.layout.Limits as given
-use Rattle.memory.specs.Layout.{limitsOf, documentWords}
+use Rattle.layout.specs.declared.Document.{Document}
+use Rattle.layout.specs.declared.Limits as given
+use Rattle.layout.specs.Layout.{limitsOf, documentWords}
 use Rattle.memory.specs.Decode.{decode}
 
 -- "Start, for `Document::empty`, tests 4 and lays the Root alone, all else zero."

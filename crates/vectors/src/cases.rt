@@ -1,6 +1,6 @@
 // Cases by their number: what each check must answer.
 use chars::Check;
-use productions::names as rules;
+use productions::checks as rules;
 
 // Which check a case is for.
 pub enum Kind {

@@ -6,7 +6,8 @@ use crate::cases::unless;
 use crate::ends;
 use crate::report::say;
 use chars::xml;
-use productions::names as rules;
+use classes::class::class_of;
+use productions::checks as rules;
 
 fn group(name: &[u8], kind: Kind, cases: &[u8]) {
     say(name, agree(kind, cases));
@@ -21,7 +22,7 @@ enum Test {
 
 fn answer(test: Test, code: u32) -> u8 {
     match test {
-        Test::Class => xml::class_of(code),
+        Test::Class => class_of(code),
         Test::Char => unless(xml::is_xml_char(code), 1),
         Test::Char11 => unless(xml::is_expressible(code), 1),
     }

@@ -10,20 +10,22 @@ use lib.Seq.{length-take-le}
 use lib.Dec.{leb}
 use borrow.Author.Tests.{leb-true}
 use Rattle.words.specs.Parts.{part, put}
-use Rattle.words.proofs.Parts.{length-part, part-add, drop-part, length-put, part-put-same, part-put-after, drop-put-after, put-put, put-same, put-left}
+use Rattle.words.proofs.Parts.{length-part, part-add, drop-part, length-put, part-put-same, part-put-after, drop-put-after, put-put, put-same, put-back, put-left}
 use Rattle.words.proofs.Tests.{and-left, and-right}
 use Rattle.slots.specs.Regions.{orderStart, clearOrder}
 use Rattle.model.specs.Kinds.{children}
-use Rattle.model.specs.Doc.{Doc, noKey}
+use Rattle.model.specs.Doc.{Doc, changeOrder, noKey}
 use Rattle.model.specs.Edits.{keyed, ordered, orderOf, renewOrder}
-use Rattle.memory.specs.declared.layout.Document.{Document}
-use Rattle.memory.specs.Layout.{limitsOf, documentWords, scratchWords, memoryOk, buffersOk}
-use Rattle.memory.specs.Decode.{slotsMade, poolIn, namesIn, lengthsAdd, decode}
+use Rattle.layout.specs.declared.Document.{Document}
+use Rattle.layout.specs.Layout.{limitsOf, documentWords, scratchWords, memoryOk, buffersOk}
+use Rattle.memory.specs.Decode.{slotsPart, slotsMade, poolIn, namesIn, lengthsAdd, decode}
+use Rattle.memory.specs.Writing.{putSlots}
 use Rattle.memory.specs.Step.{Step}
-use Rattle.memory.proofs.Limits.{sizes, arena-behind-slots, arena-inside, names-next, words-next}
+use Rattle.layout.specs.Record.{renewed}
+use Rattle.layout.proofs.Sizes.{sizes, arena-behind-slots, arena-inside, names-next, words-next}
 use Rattle.memory.proofs.Columns.{length-gens}
-use Rattle.walks.specs.Order.{putOrders, putKeys, clearKeys, renewed, Walkable}
-use Rattle.walks.proofs.Orders.{withOrder, order-words, length-order, length-putOrders, decode-putOrders, putOrders-again, length-keyed}
+use Rattle.walks.specs.Order.{putOrders, putKeys, clearKeys, Walkable}
+use Rattle.walks.proofs.Orders.{order-words, length-order, length-putOrders, decode-putOrders, putOrders-again, length-keyed}
 
 -- what is put, with what follows it in the part
 put-longer : (l : List ℕ) (q n : ℕ) (c : List ℕ) → length c ≤ n → q + n ≤ length l → put q c l ≡ put q (c ++ drop (length c) (part q n l)) l
@@ -61,17 +63,16 @@ module _ (d : Document) (mem : List ℕ) (ok : memoryOk d (length mem) ≡ true)
   cleared : List ℕ
   cleared = replicate (slotsMade d) noKey ++ drop (slotsMade d) (decode d mem .order)
 
-  -- the part of the slots, lent and returned with no key for the slots made
-  pub keys-cleared : (ys : List ℕ) (made : ℕ) → made ≡ slotsMade d → ys ≡ clearOrder (d .limits .nodes) (take (15 * d .limits .nodes - 0) (drop 0 mem)) made
-      → ys ++ drop (15 * d .limits .nodes - 0) (drop 0 mem) ≡ clearKeys d mem
-  unfolding clearOrder clearKeys putOrders
-  keys-cleared ys made e q =
+  -- the slots with no key for those made
+  pub keys-cleared : putSlots (clearOrder (d .limits .nodes) (slotsPart d mem) (slotsMade d)) mem ≡ clearKeys d mem
+  unfolding putSlots clearOrder clearKeys putOrders part
+  keys-cleared =
       let z = long in
-      let k = 15 * n - 0 in
       let c = replicate (slotsMade d) noKey in
       let size : length c ≡ slotsMade d = length-replicate (slotsMade d) noKey in
-      ap (λ (x : List ℕ). x ++ drop k (drop 0 mem)) (q ∙ ap (λ (m : ℕ). put (n * 14) (replicate m noKey) (take k (drop 0 mem))) e)
-      ∙ put-front-back mem k (n * 14) c (omega arith) (omega arith)
+      let there : length (take (15 * n) mem) ≡ 15 * n = length-take-le (15 * n) mem z in
+      sym (put-back mem 0 (put (n * 14) c (take (15 * n) mem)) (15 * n) (length-put (take (15 * n) mem) (n * 14) c (omega arith) ∙ there))
+      ∙ put-front-back mem (15 * n) (n * 14) c (omega arith) z
       ∙ put-longer mem (n * 14) n c (omega arith) (omega arith)
       ∙ ap (λ (m : ℕ). put (n * 14) (c ++ drop m (part (n * 14) n mem)) mem) size
       ∙ ap (λ (x : List ℕ). put (n * 14) (c ++ drop (slotsMade d) x) mem) (sym (order-words d mem ok))
@@ -85,7 +86,7 @@ module _ (d : Document) (mem : List ℕ) (ok : memoryOk d (length mem) ≡ true)
   unfolding clearKeys
   length-clearKeys = length-putOrders d mem ok (replicate (slotsMade d) noKey ++ drop (slotsMade d) (decode d mem .order)) cleared-size
 
-  pub decode-clearKeys : decode d (clearKeys d mem) ≡ withOrder (decode d mem) (replicate (slotsMade d) noKey ++ drop (slotsMade d) (decode d mem .order)) (d .current)
+  pub decode-clearKeys : decode d (clearKeys d mem) ≡ changeOrder (decode d mem) (replicate (slotsMade d) noKey ++ drop (slotsMade d) (decode d mem .order)) (d .current)
   unfolding clearKeys
   decode-clearKeys = decode-putOrders d mem ok (replicate (slotsMade d) noKey ++ drop (slotsMade d) (decode d mem .order)) cleared-size (d .current)
 

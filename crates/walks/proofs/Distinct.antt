@@ -8,8 +8,8 @@ use native.Mathlib.Omega.{arith}
 use lib.Dec.{eqb}
 use borrow.Author.Tests.{eq-eqb}
 use Rattle.words.specs.Lists.{countOf}
-use Rattle.model.proofs.Basics.{mem-count}
-use Rattle.model.proofs.Wf.{Distinct}
+use Rattle.laws.proofs.Basics.{mem-count}
+use Rattle.laws.proofs.Wf.{Distinct}
 
 pub count-distinct : (l : List ℕ) → ((x : ℕ) → List·Memᴰ x l → countOf (eqb x) l ≤ 1) → Distinct l
 count-distinct [] h = tt

@@ -3,30 +3,27 @@
 use mathlib.Core.Path.{_≡_, refl, sym, ap, _∙_, subst}
 use mathlib.Core.Bool.{true}
 use mathlib.Core.List.{List, [], _∷_, _++_, reverse, reverse-cons, List·Memᴰ, List·Memᴰ·head, List·Memᴰ·tail}
-use Prim.Native.Nat.{ℕ, zero, suc, _+_, _-_, _*_, _≤_, _<_}
+use Prim.Native.Nat.{ℕ, zero, suc, _+_, _-_, _≤_, _<_}
 use native.Mathlib.Omega.{arith}
 use native.Mathlib.Numerals.{add-one}
-use lib.ListN.{length, getD, set, take, drop, length-drop, length-reverse}
+use lib.ListN.{length, getD, set, drop, length-drop, length-reverse}
 use lib.Seq.{drop-length, drop-cons}
 use Rattle.words.specs.Parts.{part, put}
-use Rattle.words.proofs.Parts.{lent, length-part, getD-part, part-none, part-snoc, put-back, set-put-after, put-nil}
+use Rattle.words.proofs.Parts.{length-part, getD-part, part-none, part-snoc, set-put-after, put-nil}
 use Rattle.blocks.specs.Arena.{Block, listOf}
-use Rattle.slots.specs.Handles.{handleIndex}
-use Rattle.slots.specs.Regions.{putOrder}
-use Rattle.slots.specs.declared.Range.{Range}
-use Rattle.slots.proofs.Regions.{length-putOrder}
+use Rattle.records.specs.Handles.{handleIndex}
+use Rattle.records.specs.declared.Range.{Range}
 use Rattle.model.specs.Kinds.{Which}
 use Rattle.model.specs.Doc.{Doc, liveSlot, rangeIn, listIn}
 use Rattle.model.specs.Edits.{keyed}
-use Rattle.memory.specs.declared.layout.Document.{Document}
-use Rattle.memory.specs.Layout.{limitsOf, arenaAt, memoryOk}
-use Rattle.memory.specs.Decode.{blockOf, slotsPart, arenaIn, decode}
-use Rattle.memory.specs.Writing.{putSlots}
-use Rattle.memory.proofs.Limits.{sizes}
-use Rattle.memory.proofs.Reading.{slots-lent, entry-read, entries-read}
-use Rattle.memory.proofs.Shaped.{length-slotsPart, length-ids}
+use Rattle.layout.specs.declared.Document.{Document}
+use Rattle.layout.specs.Layout.{limitsOf, arenaAt, memoryOk}
+use Rattle.memory.specs.Decode.{blockOf, arenaIn, decode}
+use Rattle.layout.proofs.Sizes.{sizes}
+use Rattle.memory.proofs.Reading.{entry-read, entries-read}
+use Rattle.memory.proofs.Shaped.{length-ids}
 use Rattle.walks.specs.Order.{putKeys, ListHeld, Listed}
-use Rattle.walks.proofs.Orders.{withOrder, length-putKeys, decode-putKeys, keys-none, keys-more, key-one}
+use Rattle.walks.proofs.Orders.{length-putKeys, decode-putKeys, keys-none, keys-more}
 
 -- ---- lists
 
@@ -72,23 +69,11 @@ module _ (d : Document) (mem : List ℕ) (w : Which) (s : ℕ) where
       let i = h .inside in
       record { inside = omega arith; list = sym (ap (listOf (arenaIn d w mem)) q) }
 
-  -- the part of the memory that is lent for it
-  pub list-lent : (r : Range) (at : ℕ) → BlockRead r → at ≡ arenaAt (limitsOf (d .limits)) w
-      → take (at + r .start + r .len - (at + r .start)) (drop (at + r .start) mem) ≡ listIn (decode d mem) w s
-  list-lent r at b e =
-      lent mem (at + r .start) (r .len) ∙ sym (entries-read d w mem at (r .start) (r .len) e (b .inside)) ∙ sym (b .list)
+  -- the words that are shown for it
+  pub list-shown : (r : Range) → blockOf r ≡ rangeIn (decode d mem) w s → (l : List ℕ) → l ≡ listOf (arenaIn d w mem) (blockOf r) → l ≡ listIn (decode d mem) w s
+  list-shown r q l e = e ∙ ap (listOf (arenaIn d w mem)) q
 
 -- ---- keys for the entries
-
--- the part of the slots, lent and returned with an order word
-pub key-put : (d : Document) (mem : List ℕ) → memoryOk d (length mem) ≡ true → (word key s : ℕ) → s ≡ handleIndex word → handleIndex word < d .limits .nodes → (ys : List ℕ)
-    → ys ≡ putOrder (d .limits .nodes) (take (15 * d .limits .nodes - 0) (drop 0 mem)) s key → ys ++ drop (15 * d .limits .nodes - 0) (drop 0 mem) ≡ putKeys d mem key (word ∷ [])
-unfolding putSlots
-key-put d mem ok word key s e h ys q =
-    let n = d .limits .nodes in
-    let k : ys ≡ putOrder n (slotsPart d mem) s key = q ∙ ap (λ (x : List ℕ). putOrder n x s key) (slots-lent d mem) in
-    let size : length ys ≡ 15 * n - 0 = ap length k ∙ length-putOrder n (slotsPart d mem) s key ∙ omega (arith, length-slotsPart d mem ok) in
-    put-back mem 0 ys (15 * n - 0) size ∙ ap (λ (x : List ℕ). put 0 x mem) k ∙ key-one d mem ok word key s e h
 
 module _ (d : Document) (mem : List ℕ) (ok : memoryOk d (length mem) ≡ true) (w : Which) where
   pub keys-first : (start key : ℕ) → mem ≡ putKeys d mem key (part start 0 mem)

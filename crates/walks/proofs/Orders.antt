@@ -11,18 +11,20 @@ use Rattle.words.specs.Parts.{part, put}
 use Rattle.words.specs.Lists.{tabulate}
 use Rattle.words.proofs.Parts.{length-part, part-none, part-snoc, getD-part, part-part, length-put, put-back, part-put-same, part-put-before, part-put-after, getD-put-before, put-put, put-same}
 use Rattle.words.proofs.Lists.{tabulate-same}
-use Rattle.slots.specs.Handles.{handleIndex}
-use Rattle.slots.specs.Regions.{orderStart, recordStart, readRecord, generationAt, freeAt, recordAt, orderAt, putOrder}
-use Rattle.slots.specs.declared.Loaded.{Loaded}
+use Rattle.records.specs.Handles.{handleIndex}
+use Rattle.records.specs.Records.{readRecord}
+use Rattle.slots.specs.Regions.{orderStart, recordStart, generationAt, freeAt, recordAt, orderAt, putOrder}
+use Rattle.records.specs.declared.Loaded.{Loaded}
 use Rattle.slots.proofs.Regions.{nodeAt-recordAt}
 use Rattle.model.specs.Kinds.{Which, children}
-use Rattle.model.specs.Doc.{Doc}
+use Rattle.model.specs.Doc.{Doc, changeSlots, changeNodes, changeArenas, changeOrder}
 use Rattle.model.specs.Edits.{keyed}
-use Rattle.memory.specs.declared.layout.Document.{Document}
-use Rattle.memory.specs.Layout.{limitsOf, entriesOf, arenaAt, textsAt, textsWords, namesAt, namesWords, memoryOk}
-use Rattle.memory.specs.Decode.{kindLoaded, parentLoaded, rangeLoaded, loadedAt, slotsPart, slotsMade, slotsFree, arenaPart, decodeWith, decode, poolIn, namesIn, lengthsAdd}
-use Rattle.memory.specs.Writing.{putSlots, recordWith}
-use Rattle.memory.proofs.Limits.{sizes, arena-behind-slots, arena-inside, names-next}
+use Rattle.layout.specs.declared.Document.{Document}
+use Rattle.layout.specs.Layout.{limitsOf, entriesOf, arenaAt, textsAt, textsWords, namesAt, namesWords, memoryOk}
+use Rattle.memory.specs.Decode.{kindLoaded, parentLoaded, rangeLoaded, loadedAt, slotsPart, slotsMade, slotsFree, arenaPart, decodeWith, decode, lengthsAdd}
+use Rattle.memory.specs.Writing.{putSlots}
+use Rattle.layout.specs.Record.{recordWith}
+use Rattle.layout.proofs.Sizes.{sizes, arena-behind-slots, arena-inside, names-next}
 use Rattle.memory.proofs.Kept.{decode-kept}
 use Rattle.walks.specs.Order.{putOrders, putKeys}
 
@@ -51,24 +53,7 @@ keyed-append words n (h ∷ l) m =
     let e : suc n + length l ≡ n + suc (length l) = omega arith in
     keyed-append (set words (handleIndex h) n) (suc n) l m ∙ ap (λ (k : ℕ). keyed (keyed words n (h ∷ l)) k m) e
 
--- ---- a document with another order
-
-abbrev pub withOrder : Doc → List ℕ → Bool → Doc
-withOrder d words current = record {
-  limits = d .limits;
-  gens = d .gens;
-  free = d .free;
-  kinds = d .kinds;
-  parents = d .parents;
-  ranges = d .ranges;
-  arenas = d .arenas;
-  order = words;
-  current = current;
-  pool = d .pool;
-  names = d .names;
-  countsFit = d .countsFit;
-  lengthsFit = d .lengthsFit;
-}
+-- ---- the document
 
 module _ (d : Document) (mem : List ℕ) (ok : memoryOk d (length mem) ≡ true) where
   abbrev n : ℕ
@@ -143,7 +128,7 @@ module _ (d : Document) (mem : List ℕ) (ok : memoryOk d (length mem) ≡ true)
         ∙ orders-there
 
     -- the document has the words as its order, and all else equal
-    pub decode-putOrders : (current : Bool) → decode (recordWith d (d .counts) current) (putOrders d o mem) ≡ withOrder (decode d mem) o current
+    pub decode-putOrders : (current : Bool) → decode (recordWith d (d .counts) current) (putOrders d o mem) ≡ changeOrder (decode d mem) o current
     unfolding lengthsAdd
     decode-putOrders current =
         let l = limitsOf (d .limits) in
@@ -153,21 +138,13 @@ module _ (d : Document) (mem : List ℕ) (ok : memoryOk d (length mem) ≡ true)
           texts = behind-kept (textsAt l) (textsWords l) (omega (arith, arena-behind-slots l children, arena-inside l children));
           names = behind-kept (namesAt l) (namesWords l) (omega (arith, arena-behind-slots l children, arena-inside l children, names-next l));
         })
-        ∙ (λ i. record {
-          limits = l;
-          gens = tabulate-same (generationAt n (slotsPart d (putOrders d o mem))) (generationAt n (slotsPart d mem)) (slotsMade d) (λ s h. generation-kept s (omega arith)) i;
-          free = reverse (tabulate-same (freeAt n (slotsPart d (putOrders d o mem))) (freeAt n (slotsPart d mem)) (slotsFree d) (λ s h. free-kept s (omega arith)) i);
-          kinds = column-kept kindLoaded i;
-          parents = column-kept parentLoaded i;
-          ranges = λ a. column-kept (rangeLoaded a) i;
-          arenas = λ a. arena-kept a i;
-          order = order-there i;
-          current = current;
-          pool = poolIn e mem;
-          names = namesIn e mem;
-          countsFit = decode d mem .countsFit;
-          lengthsFit = lengthsAdd e mem;
-        })
+        ∙ (λ i.
+        let slots =
+        changeSlots (decode d mem)
+        (tabulate-same (generationAt n (slotsPart d (putOrders d o mem))) (generationAt n (slotsPart d mem)) (slotsMade d) (λ s h. generation-kept s (omega arith)) i)
+        (reverse (tabulate-same (freeAt n (slotsPart d (putOrders d o mem))) (freeAt n (slotsPart d mem)) (slotsFree d) (λ s h. free-kept s (omega arith)) i)) in
+        let nodes = changeNodes slots (column-kept kindLoaded i) (column-kept parentLoaded i) (λ a. column-kept (rangeLoaded a) i) in
+        changeOrder (changeArenas nodes (λ a. arena-kept a i)) (order-there i) current)
       where
         arena-kept : (a : Which) → decode d (putOrders d o mem) .arenas a ≡ decode d mem .arenas a
         arena-kept a = rw (behind-kept (arenaAt (limitsOf (d .limits)) a) (2 * entriesOf (d .limits) a) (arena-behind-slots (limitsOf (d .limits)) a))
@@ -189,7 +166,7 @@ module _ (d : Document) (mem : List ℕ) (ok : memoryOk d (length mem) ≡ true)
   unfolding putKeys
   length-putKeys key l = length-putOrders (keyed (decode d mem .order) key l) (keyed-size key l)
 
-  pub decode-putKeys : (key : ℕ) (l : List ℕ) → decode d (putKeys d mem key l) ≡ withOrder (decode d mem) (keyed (decode d mem .order) key l) (d .current)
+  pub decode-putKeys : (key : ℕ) (l : List ℕ) → decode d (putKeys d mem key l) ≡ changeOrder (decode d mem) (keyed (decode d mem .order) key l) (d .current)
   unfolding putKeys
   decode-putKeys key l = decode-putOrders (keyed (decode d mem .order) key l) (keyed-size key l) (d .current)
 
@@ -215,7 +192,11 @@ module _ (d : Document) (mem : List ℕ) (ok : memoryOk d (length mem) ≡ true)
       ∙ sym (put-set-part mem (n * 14) n s key h (let z = long in omega arith))
       ∙ ap (λ (x : List ℕ). put (n * 14) (set x s key) mem) (sym order-words)
 
-  pub key-one : (word key : ℕ) (s : ℕ) → s ≡ handleIndex word → handleIndex word < d .limits .nodes
+  key-one : (word key : ℕ) (s : ℕ) → s ≡ handleIndex word → handleIndex word < d .limits .nodes
       → putSlots (putOrder (d .limits .nodes) (slotsPart d mem) s key) mem ≡ putKeys d mem key (word ∷ [])
   unfolding putKeys
   key-one word key s e h = ap (λ (k : ℕ). putSlots (putOrder n (slotsPart d mem) k key) mem) e ∙ key-stored (handleIndex word) key h
+
+  pub key-put : (word key : ℕ) (s : ℕ) → s ≡ handleIndex word → handleIndex word < d .limits .nodes → (mem′ : List ℕ)
+      → mem′ ≡ putSlots (putOrder (d .limits .nodes) (slotsPart d mem) s key) mem → mem′ ≡ putKeys d mem key (word ∷ [])
+  key-put word key s e h mem′ q = q ∙ key-one word key s e h

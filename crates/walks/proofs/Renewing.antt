@@ -11,14 +11,14 @@ use lib.Seq.{take-suc, take-at, length-take-le}
 use Rattle.words.specs.Parts.{put}
 use Rattle.words.specs.Lists.{joined}
 use Rattle.words.proofs.Parts.{length-put}
-use Rattle.slots.specs.Handles.{handleIndex}
+use Rattle.records.specs.Handles.{handleIndex}
 use Rattle.model.specs.Kinds.{Which, children, attributes, namespaces}
 use Rattle.model.specs.Doc.{Doc, rootHandle, resolves, parentAt, listIn, listAt}
 use Rattle.model.specs.Edits.{walk, ordered}
-use Rattle.memory.specs.declared.layout.Document.{Document}
-use Rattle.memory.specs.Layout.{memoryOk}
+use Rattle.layout.specs.declared.Document.{Document}
+use Rattle.layout.specs.Layout.{memoryOk}
 use Rattle.memory.specs.Decode.{slotsMade, poolIn, namesIn, lengthsAdd, decode}
-use Rattle.memory.proofs.Limits.{sizes}
+use Rattle.layout.proofs.Sizes.{sizes}
 use Rattle.memory.proofs.Columns.{length-gens}
 use Rattle.walks.specs.Order.{putKeys, keyedAt, Listed, Walkable}
 use Rattle.walks.proofs.Orders.{keys-none, keys-more}

@@ -7,8 +7,8 @@ use mathlib.Core.List.{List, [], _∷_, _++_, map, List·Memᴰ, List·Memᴰ·h
 use Prim.Native.Nat.{ℕ, _+_, _≤_, _<_}
 use native.Mathlib.Omega.{arith}
 use lib.ListN.{length, length-append, length-map}
-use Rattle.model.proofs.Wf.{Distinct}
-use Rattle.model.proofs.Membership.{mem-map-cases, distinct-append, distinct-map, pigeonhole}
+use Rattle.laws.proofs.Wf.{Distinct}
+use Rattle.laws.proofs.Membership.{mem-map-cases, distinct-append, distinct-map, pigeonhole}
 
 -- a walk from several tops, one after another
 module _ (next : ℕ → List ℕ) (Live : ℕ → Type 0) (parent : ℕ → Option ℕ) where

@@ -13,19 +13,19 @@ use borrow.Author.Tests.{eqb-true}
 use Rattle.words.specs.Lists.{countOf}
 use Rattle.words.proofs.Tests.{and-left, and-right}
 use Rattle.blocks.specs.Arena.{Arena, Block, block, capOf}
-use Rattle.slots.specs.Handles.{handleIndex, handleGeneration}
-use Rattle.slots.proofs.Handles.{wordOf-idOf}
+use Rattle.records.specs.Handles.{handleIndex, handleGeneration}
+use Rattle.records.proofs.Handles.{wordOf-idOf}
 use Rattle.model.specs.Kinds.{Which, children, attributes, namespaces, whichOf}
 use Rattle.model.specs.Doc.{Doc, rootHandle, generationAt, liveSlot, handleWord, handleAt, resolves, kindIn, parentAt, rangeIn, listAt}
 use Rattle.model.specs.Rules.{Entries, blockIn, Rules}
 use Rattle.model.specs.Edits.{pushedBy}
-use Rattle.model.proofs.Wf.{Distinct}
-use Rattle.memory.specs.declared.layout.Document.{Document}
-use Rattle.memory.specs.Layout.{memoryOk}
+use Rattle.laws.proofs.Wf.{Distinct}
+use Rattle.layout.specs.declared.Document.{Document}
+use Rattle.layout.specs.Layout.{memoryOk}
 use Rattle.memory.specs.Decode.{slotsMade, poolIn, namesIn, lengthsAdd, decode}
 use Rattle.memory.proofs.Columns.{live-made}
 use Rattle.walks.specs.Order.{Listed, Walkable}
-use Rattle.model.proofs.Membership.{distinct-append, distinct-reverse, mem-reverse-old}
+use Rattle.laws.proofs.Membership.{distinct-append, distinct-reverse, mem-reverse-old}
 use Rattle.walks.proofs.Distinct.{count-distinct}
 use Rattle.walks.proofs.Visits.{Nest}
 

@@ -1,4 +1,4 @@
--- The renewed order: keys written into the order words, and the record whose order is current.
+-- The renewed order: keys written into the order words.
 use mathlib.Core.Path.{_≡_}
 use mathlib.Core.Bool.{Bool, true}
 use mathlib.Core.Option.{none}
@@ -6,16 +6,15 @@ use mathlib.Core.List.{List, [], _∷_, _++_, List·Memᴰ}
 use Prim.Native.Nat.{ℕ, _+_, _≤_, _<_}
 use lib.ListN.{length, drop, replicate}
 use Rattle.words.specs.Parts.{put}
-use Rattle.slots.specs.Handles.{handleIndex}
+use Rattle.records.specs.Handles.{handleIndex}
 use Rattle.slots.specs.Regions.{orderStart}
 use Rattle.model.specs.Kinds.{Which, children, attributes, namespaces}
 use Rattle.model.specs.Doc.{Doc, rootHandle, noKey, liveSlot, resolves, parentAt, rangeIn, listIn, listAt}
 use Rattle.model.specs.Rules.{Entries, Blocks}
 use Rattle.model.specs.Edits.{keyed}
-use Rattle.memory.specs.declared.layout.Document.{Document}
-use Rattle.memory.specs.Layout.{limitsOf, memoryOk}
+use Rattle.layout.specs.declared.Document.{Document}
+use Rattle.layout.specs.Layout.{limitsOf, memoryOk}
 use Rattle.memory.specs.Decode.{slotsMade, decode}
-use Rattle.memory.specs.Writing.{recordWith}
 
 -- the buffer with other order words, one for each slot up to the limit
 unfoldable pub putOrders : Document → List ℕ → List ℕ → List ℕ
@@ -36,10 +35,6 @@ keyedAt d h = h ∷ (listAt d namespaces h ++ listAt d attributes h)
 -- "pushes children, attributes, namespaces": what goes on the stack of `free_subtree`, the last on top
 abbrev pub pushedIn : Doc → ℕ → List ℕ
 pushedIn d s = listIn d children s ++ (listIn d attributes s ++ listIn d namespaces s)
-
--- the record whose order is current
-abbrev pub renewed : Document → Document
-renewed d = recordWith d (d .counts) true
 
 -- ---- what is asked before a list is read: the slot is live, and its block lies in the arena
 

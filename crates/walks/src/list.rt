@@ -6,25 +6,22 @@ ghost use lib.ListN.{length};
 ghost use Rattle.words.specs.Parts.{put};
 ghost use Rattle.model.specs.Kinds.{Which};
 ghost use Rattle.model.specs.Doc.{listIn};
-ghost use Rattle.memory.specs.Layout.{whichOf};
+ghost use Rattle.layout.specs.Layout.{whichOf};
 ghost use Rattle.memory.specs.Decode.{decode};
 ghost use Rattle.walks.specs.Order.{ListHeld, pushedIn};
+use layout::Arena;
+use layout::Document;
 use memory::fields::live_block;
-use memory::layout::Arena;
-use memory::layout::Document;
-use memory::layout::arena_at;
-use slots::NodeSlot;
+use memory::parts::block_words;
+use words::NodeSlot;
 
 // The list of the live node in a slot, a part of the memory.
 pub fn list_of(d: Document, mem: &[u64], slot: NodeSlot, arena: Arena) -> &[u64]
     requires { ⌜ ListHeld d (now mem) (whichOf arena) (slot .0) ⌝ }
     ensures { λ r. ⌜ now r ≡ listIn (decode d (now (mem .entry))) (whichOf arena) (slot .0) ⌝ }
 {
-    let number = slot.0;
-    let block = live_block(d, mem, number as usize, arena);
-    let start = arena_at(d.limits, arena) + block.start as usize;
-    let end = start + block.len as usize;
-    &mem[start..end]
+    let block = live_block(d, mem, slot, arena);
+    block_words(d, mem, arena, block)
 }
 
 // Pushes the entries, the last first, so that the first is on top; the height of the stack then.

@@ -4,21 +4,22 @@ ghost use mathlib.Core.Bool.{true};
 ghost use mathlib.Core.List.{_∷_, []};
 ghost use Prim.Native.Nat.{_+_, _≤_, _<_};
 ghost use lib.ListN.{length};
-ghost use Rattle.slots.specs.Handles.{handleIndex};
+ghost use Rattle.records.specs.Handles.{handleIndex};
 ghost use Rattle.model.specs.Kinds.{Which};
 ghost use Rattle.model.specs.Doc.{listIn};
 ghost use Rattle.model.specs.Edits.{ordered, orderOf, renewOrder};
-ghost use Rattle.memory.specs.Layout.{whichOf, memoryOk, buffersOk};
+ghost use Rattle.layout.specs.Layout.{whichOf, memoryOk, buffersOk};
 ghost use Rattle.memory.specs.Decode.{decode};
-ghost use Rattle.walks.specs.Order.{Listed, Walkable, putOrders, putKeys, clearKeys, keyedAt, renewed};
+ghost use Rattle.layout.specs.Record.{renewed};
+ghost use Rattle.walks.specs.Order.{Listed, Walkable, putOrders, putKeys, clearKeys, keyedAt};
 use crate::list::list_of;
 use crate::list::push_reversed;
+use layout::Arena;
+use layout::Document;
+use layout::arena_at;
 use memory::fields::live_block;
-use memory::layout::Arena;
-use memory::layout::Document;
-use memory::layout::arena_at;
 use memory::read::made;
-use slots::NodeSlot;
+use words::NodeSlot;
 
 // The slot of a handle.
 pub fn slot_of(word: u64) -> NodeSlot
@@ -32,10 +33,7 @@ fn put_key(d: Document, mem: &mut [u64], word: u64, key: u64)
     requires { ⌜ (memoryOk d (length (now mem)) ≡ true) × (handleIndex word < d .limits .nodes) ⌝ }
     ensures { λ _. ⌜ now (mem .exit) ≡ putKeys d (now (mem .entry)) key (word ∷ []) ⌝ }
 {
-    let l = d.limits;
-    let n = l.nodes;
-    let end = 15 * n;
-    slots::region::put_order(&mut mem[0..end], n, slot_of(word), key);
+    memory::parts::put_order(d, mem, slot_of(word), key);
 }
 
 // Keys for a node's list, from key on; the next key.
@@ -44,8 +42,7 @@ fn number_list(d: Document, mem: &mut [u64], slot: NodeSlot, arena: Arena, key: 
     ensures { λ r. ⌜ r ≡ key + length (listIn (decode d (now (mem .entry))) (whichOf arena) (slot .0)) ⌝ }
     ensures { λ _. ⌜ now (mem .exit) ≡ putKeys d (now (mem .entry)) key (listIn (decode d (now (mem .entry))) (whichOf arena) (slot .0)) ⌝ }
 {
-    let number = slot.0;
-    let block = live_block(d, &mem[..], number as usize, arena);
+    let block = live_block(d, &mem[..], slot, arena);
     let first = arena_at(d.limits, arena);
     let start = block.start as usize;
     let len = block.len as usize;
@@ -94,10 +91,7 @@ fn clear_keys(d: Document, mem: &mut [u64])
     requires { ⌜ memoryOk d (length (now mem)) ≡ true ⌝ }
     ensures { λ _. ⌜ now (mem .exit) ≡ clearKeys d (now (mem .entry)) ⌝ }
 {
-    let l = d.limits;
-    let n = l.nodes;
-    let end = 15 * n;
-    slots::region::clear_order(&mut mem[0..end], n, made(d));
+    memory::parts::clear_order(d, mem);
 }
 
 // The renewed order. Scratch holds the stack, and anything after.
@@ -108,11 +102,5 @@ pub fn renew_order(d: Document, mem: &mut [u64], scratch: &mut [u64]) -> Documen
 {
     clear_keys(d, mem);
     number_tree(d, mem, scratch);
-    let limits = d.limits;
-    let counts = d.counts;
-    Document {
-        limits,
-        counts,
-        current: true,
-    }
+    layout::record::renewed(d)
 }

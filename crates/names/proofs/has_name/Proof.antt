@@ -19,13 +19,16 @@ shown : (limits : NameLimits) (counts : NameCounts) (i : ℕ) (words : List ℕ)
 unfolding nameThere
 shown limits counts i words n used r a b e = rw (a, b) at e
 
+cast-i : tie.Need-cast-i
+cast-i c = search needs
+
 least-requires : tie.Need-least-requires
 least-requires c κs = search needs
 
 returns : tie.Need-returns
 returns c =
     let a = c .before .before .before .args in
-    sym (there-number (a .limits) (a .counts) (a .words .now) (a .i) (omega (arith, c .before .least .ensures)))
+    sym (there-number (a .limits) (a .counts) (a .words .now) (a .number .0) (omega (arith, c .before .least .ensures)))
 
 least-requires-2 : tie.Need-least-requires-2
 least-requires-2 c κs = search needs
@@ -42,12 +45,13 @@ both-there-requires c κs = search needs
 returns-2 : tie.Need-returns-2
 returns-2 c =
     let a = c .before .before .before .before .before .args in
-    shown (a .limits) (a .counts) (a .i) (a .words .now) (c .before .before .before .least .result) (c .before .least2 .result) _ (c .before .before .before .least .ensures) (c .before .least2 .ensures) (c .both-there .ensures)
+    shown (a .limits) (a .counts) (a .number .0) (a .words .now) (c .before .before .before .least .result) (c .before .least2 .result) _ (c .before .before .before .least .ensures) (c .before .least2 .ensures) (c .both-there .ensures)
 
 pub has-name-spec : {M : Type 1} → statement M
 has-name-spec =
     tie.close
     (tie.spec
+    cast-i
     least-requires
     returns
     least-requires-2

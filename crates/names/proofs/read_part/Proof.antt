@@ -18,6 +18,9 @@ shown : (limits : NameLimits) (counts : NameCounts) (i k : ℕ) (words r : List 
 unfolding partShown
 shown limits counts i k words r n used a b e = rw (a, b) at e
 
+cast-i : tie.Need-cast-i
+cast-i c = search needs
+
 least-requires : tie.Need-least-requires
 least-requires c κs = search needs
 
@@ -42,7 +45,7 @@ piece-requires c κs = search needs
 returns : tie.Need-returns
 returns c =
     let a = c .before .before .before .before .before .args in
-    shown (a .limits) (a .counts) (a .i) (a .k) (a .words .now) _ (c .before .before .before .least .result) (c .before .least2 .result)
+    shown (a .limits) (a .counts) (a .number .0) (a .k) (a .words .now) _ (c .before .before .before .least .result) (c .before .least2 .result)
     (c .before .before .before .least .ensures) (c .before .least2 .ensures) (c .piece .ensures)
 
 slice-aggregate-result : tie.Need-slice-aggregate-result
@@ -51,12 +54,13 @@ slice-aggregate-result c = search needs
 returns-2 : tie.Need-returns-2
 returns-2 c =
     let a = c .before .before .before .before .args in
-    sym (part-number (a .limits) (a .counts) (a .words .now) (a .i) (a .k) (omega (arith, c .before .before .least .ensures)))
+    sym (part-number (a .limits) (a .counts) (a .words .now) (a .number .0) (a .k) (omega (arith, c .before .before .least .ensures)))
 
 pub read-part-spec : {M : Type 1} → statement M
 read-part-spec =
     tie.close
     (tie.spec
+    cast-i
     least-requires
     least-requires-2
     add-piece

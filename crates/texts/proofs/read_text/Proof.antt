@@ -25,14 +25,17 @@ least-requires-2 c κs = search needs
 add-piece : tie.Need-add-piece
 add-piece c = search needs
 
+cast-piece : tie.Need-cast-piece
+cast-piece c = search needs
+
 piece-requires : tie.Need-piece-requires
 piece-requires c κs = search needs
 
 returns : tie.Need-returns
 returns c =
     let a = c .before .before .before .before .before .args in
-    shown (a .limits) (a .counts) (a .slot) _ _ (a .words .now) _ (c .before .before .before .least .ensures) (c .before .before .least2 .ensures) (c .piece .ensures)
+    shown (a .limits) (a .counts) (a .slot .0) _ _ (a .words .now) _ (c .before .before .before .least .ensures) (c .before .before .least2 .ensures) (c .piece .ensures)
 
 pub read-text-spec : {M : Type 1} → statement M
 read-text-spec =
-    tie.close (tie.spec least-requires least-requires-2 add-piece piece-requires returns)
+    tie.close (tie.spec least-requires least-requires-2 add-piece cast-piece piece-requires returns)

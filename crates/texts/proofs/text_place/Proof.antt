@@ -23,13 +23,16 @@ least-requires c κs = search needs
 least-requires-2 : tie.Need-least-requires-2
 least-requires-2 c κs = search needs
 
+cast-locate : tie.Need-cast-locate
+cast-locate c = search needs
+
 locate-requires : tie.Need-locate-requires
 locate-requires c κs = search needs
 
 returns : tie.Need-returns
 returns c =
     let a = c .before .before .before .before .args in
-    shown (a .limits) (a .counts) (a .slot) _ _ (a .words .now) _ (c .before .before .least .ensures) (c .before .least2 .ensures) (c .locate .ensures)
+    shown (a .limits) (a .counts) (a .slot .0) _ _ (a .words .now) _ (c .before .before .least .ensures) (c .before .least2 .ensures) (c .locate .ensures)
 
 pub text-place-spec : {M : Type 1} → statement M
-text-place-spec = tie.close (tie.spec least-requires least-requires-2 locate-requires returns)
+text-place-spec = tie.close (tie.spec least-requires least-requires-2 cast-locate locate-requires returns)

@@ -1,7 +1,7 @@
 -- `appending::text::append_checked` meets its contract.
 -- Assumes nothing.
 use mathlib.Core.Path.{refl}
-use Rattle.slots.specs.Handles.{wordOf}
+use Rattle.records.specs.Handles.{wordOf}
 use Rattle.model.specs.Calls.{append-text}
 use Rattle.editing.proofs.Editing.{refused-answers, admits, performed-answers}
 use borrow.Author.Needs.{needs}

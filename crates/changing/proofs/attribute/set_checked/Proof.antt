@@ -1,9 +1,9 @@
 -- `changing::attribute::set_checked` meets its contract.
 -- Assumes nothing.
 use mathlib.Core.Path.{refl, ap}
-use Rattle.slots.specs.Handles.{wordOf}
+use Rattle.records.specs.Handles.{wordOf}
 use Rattle.model.specs.Calls.{set-attribute}
-use Rattle.plans.specs.Verdicts.{verdictNumber}
+use Rattle.verdicts.specs.Verdicts.{verdictNumber}
 use Rattle.editing.proofs.Editing.{refused-answers, admits, performed-answers}
 use borrow.Author.Needs.{needs}
 use Rattle.changing.proofs.attribute.set_checked.Statement.{statement}

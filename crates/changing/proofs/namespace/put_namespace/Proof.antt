@@ -1,6 +1,6 @@
 -- `changing::namespace::put_namespace` meets its contract.
 -- Assumes nothing.
-use Rattle.slots.specs.Handles.{wordOf}
+use Rattle.records.specs.Handles.{wordOf}
 use Rattle.model.specs.Calls.{findNamespace}
 use Rattle.memory.specs.Decode.{decode}
 use Rattle.editing.proofs.Searched.{found-at, found-nowhere}

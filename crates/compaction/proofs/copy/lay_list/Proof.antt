@@ -1,14 +1,11 @@
 -- `compaction::copy::lay_list` meets its contract.
 -- Assumes nothing.
 use native.Mathlib.Omega.{arith}
-use Rattle.memory.specs.Layout.{whichOf}
+use Rattle.layout.specs.Layout.{whichOf}
 use Rattle.compaction.proofs.Copying.{slot-in, narrow, block-inside, block-room, arena-ok, laid-with}
 use borrow.Author.Needs.{needs}
 use Rattle.compaction.proofs.copy.lay_list.Statement.{statement}
 use Rattle.compaction.proofs.copy.lay_list.Tie as tie
-
-cast-live-block : tie.Need-cast-live-block
-cast-live-block c = search needs
 
 live-block-requires : tie.Need-live-block-requires
 live-block-requires c κs =
@@ -27,8 +24,8 @@ copy-block-requires c κs =
     let e = c .before .length-in .ensures in
     (s .pre .memory, block-inside d mem w (s .args .slot .0) (s .args .used) (s .pre) (c .before .before .live-block .result) (c .before .before .live-block .ensures), omega (arith, e, block-room d mem w (s .args .slot .0) (s .args .used) (s .pre) (c .before .before .live-block .result) (c .before .before .live-block .ensures)))
 
-cast-t16 : tie.Need-cast-t16
-cast-t16 c =
+cast-t14 : tie.Need-cast-t14
+cast-t14 c =
     let s = c .before .before .before .before .before .before .before .before in
     let d = s .args .d in
     let mem = s .args .mem .now in
@@ -74,11 +71,10 @@ pub lay-list-spec : {M : Type 1} → statement M
 lay-list-spec =
     tie.close
     (tie.spec
-    cast-live-block
     live-block-requires
     length-in-requires
     copy-block-requires
-    cast-t16
+    cast-t14
     put-range-requires
     cast-with-length
     add-with-length

@@ -17,9 +17,6 @@ lay-list-requires c κs =
     let u = s .args .used in
     children-layable d mem h u (s .pre) _ (c .before .slot-of .ensures)
 
-cast-is-element : tie.Need-cast-is-element
-cast-is-element c = search needs
-
 is-element-requires : tie.Need-is-element-requires
 is-element-requires c κs =
     let s = c .before .before .before .before .before .before .before in
@@ -77,7 +74,6 @@ lay-node-spec =
     (tie.spec
     slot-of-requires
     lay-list-requires
-    cast-is-element
     is-element-requires
     lay-list-requires-2
     lay-list-requires-3

@@ -1,9 +1,7 @@
 -- `compaction::rebuild::replace_blocks` meets its contract.
 -- Assumes nothing.
 use native.Mathlib.Omega.{arith}
-use lib.ListN.{length}
-use Rattle.memory.specs.Layout.{whichOf}
-use Rattle.memory.proofs.Limits.{sizes, memory-limits}
+use Rattle.layout.specs.Layout.{whichOf}
 use Rattle.compaction.proofs.Replacing.{blocks-replaced}
 use borrow.Author.Needs.{needs}
 use Rattle.compaction.proofs.rebuild.replace_blocks.Statement.{statement}
@@ -12,73 +10,18 @@ use Rattle.compaction.proofs.rebuild.replace_blocks.Tie as tie
 length-in-requires : tie.Need-length-in-requires
 length-in-requires c κs = search needs
 
-arena-limit-requires : tie.Need-arena-limit-requires
-arena-limit-requires c κs = search needs
-
-arena-at-requires : tie.Need-arena-at-requires
-arena-at-requires c κs =
-    let s = c .before .before .before in
-    memory-limits (s .args .d) (length (s .args .mem .now)) (s .pre .0)
-
-add-end : tie.Need-add-end
-add-end c =
-    let s = c .before .before .before .before in
-    let w = whichOf (s .args .arena) in
-    let z = sizes (s .args .d) (length (s .args .mem .now)) (s .pre .0) in
-    omega (arith, z .arena w, z .narrow w)
-
-add-end-2 : tie.Need-add-end-2
-add-end-2 c =
-    let s = c .before .before .before .before in
-    let w = whichOf (s .args .arena) in
-    let z = sizes (s .args .d) (length (s .args .mem .now)) (s .pre .0) in
-    omega (arith, z .arena w, z .narrow w)
-
-mul-replace-blocks : tie.Need-mul-replace-blocks
-mul-replace-blocks c =
-    let s = c .before .before .before .before in
-    let w = whichOf (s .args .arena) in
-    let z = sizes (s .args .d) (length (s .args .mem .now)) (s .pre .0) in
-    omega (arith, z .arena w, z .narrow w)
-
-sub-replace-blocks : tie.Need-sub-replace-blocks
-sub-replace-blocks c = search needs
-
-part-replace-blocks-start : tie.Need-part-replace-blocks-start
-part-replace-blocks-start c = search needs
-
-part-replace-blocks-end : tie.Need-part-replace-blocks-end
-part-replace-blocks-end c =
-    let s = c .before .before .before .before in
-    let w = whichOf (s .args .arena) in
-    let z = sizes (s .args .d) (length (s .args .mem .now)) (s .pre .0) in
-    omega (arith, z .arena w, z .narrow w)
-
 replace-blocks-requires : tie.Need-replace-blocks-requires
-replace-blocks-requires c κs = search needs
+replace-blocks-requires c κs =
+    let s = c .before .before .before in
+    (s .pre .0, omega (arith, s .pre .1, c .before .length-in .ensures))
 
 same-length : tie.Need-same-length
 same-length c = search needs
 
 returns : tie.Need-returns
 returns c =
-    let s = c .before .before .before .before .before .before .before .before in
-    let r = c .before .before .replace-blocks in
-    blocks-replaced (s .args .d) (whichOf (s .args .arena)) (s .args .mem .now) (s .pre .0) _ _ (c .before .before .before .before .before .arena-limit .ensures) (c .before .before .before .before .arena-at .ensures) (s .args .used) _ (c .before .before .before .before .before .before .length-in .ensures) (r .last .0) (r .kept .0) (r .ensures)
+    let s = c .before .before .before .before .before .before in
+    blocks-replaced (s .args .d) (whichOf (s .args .arena)) (s .args .mem .now) (s .args .used) _ (c .before .before .before .before .length-in .ensures) _ (c .before .before .replace-blocks .ensures)
 
 pub replace-blocks-spec : {M : Type 1} → statement M
-replace-blocks-spec =
-    tie.close
-    (tie.spec
-    length-in-requires
-    arena-limit-requires
-    arena-at-requires
-    add-end
-    add-end-2
-    mul-replace-blocks
-    sub-replace-blocks
-    part-replace-blocks-start
-    part-replace-blocks-end
-    replace-blocks-requires
-    same-length
-    returns)
+replace-blocks-spec = tie.close (tie.spec length-in-requires replace-blocks-requires same-length returns)

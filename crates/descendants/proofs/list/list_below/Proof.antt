@@ -1,6 +1,6 @@
 -- `descendants::list::list_below` meets its contract.
 -- Assumes nothing.
-use Rattle.slots.specs.Handles.{wordOf}
+use Rattle.records.specs.Handles.{wordOf}
 use Rattle.reading.proofs.Live.{nodes-room}
 use Rattle.descendants.proofs.Listing.{list-refused, list-written}
 use borrow.Author.Needs.{needs}

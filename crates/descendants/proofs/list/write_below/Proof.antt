@@ -1,7 +1,7 @@
 -- `descendants::list::write_below` meets its contract.
 -- Assumes nothing.
 use mathlib.Core.Path.{sym, ap, _∙_}
-use Rattle.slots.specs.Handles.{wordOf}
+use Rattle.records.specs.Handles.{wordOf}
 use Rattle.model.specs.Doc.{resolves}
 use Rattle.memory.specs.Decode.{decode}
 use Rattle.descendants.proofs.Listing.{stale-written, same-written}

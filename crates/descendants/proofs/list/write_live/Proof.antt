@@ -5,11 +5,11 @@ use Prim.Native.Nat.{_-_, _≤_}
 use native.Mathlib.Omega.{arith}
 use lib.ListN.{length}
 use borrow.Author.Needs.{needs}
-use Rattle.slots.specs.Handles.{wordOf}
-use Rattle.slots.proofs.Handles.{wordOf-idOf}
+use Rattle.records.specs.Handles.{wordOf}
+use Rattle.records.proofs.Handles.{wordOf-idOf}
 use Rattle.model.specs.Doc.{resolves}
 use Rattle.memory.specs.Decode.{decode}
-use Rattle.memory.proofs.Limits.{sizes}
+use Rattle.layout.proofs.Sizes.{sizes}
 use Rattle.descendants.specs.Walking.{walked}
 use Rattle.descendants.proofs.Listing.{Listing, listing-start, listing-full, listing-may, listing-ends, listing-turn}
 use Rattle.descendants.proofs.list.write_live.Statement.{statement}

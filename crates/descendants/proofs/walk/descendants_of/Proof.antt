@@ -1,6 +1,6 @@
 -- `descendants::walk::descendants_of` meets its contract.
 -- Assumes nothing.
-use Rattle.slots.specs.Handles.{wordOf}
+use Rattle.records.specs.Handles.{wordOf}
 use Rattle.descendants.proofs.Answered.{start-shown, start-refused}
 use borrow.Author.Needs.{needs}
 use Rattle.descendants.proofs.walk.descendants_of.Statement.{statement}

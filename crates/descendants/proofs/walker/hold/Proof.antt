@@ -35,14 +35,14 @@ use denote.Triple.Table.{entered}
 use denote.Triple.Walked.{says, Stays, stay-none, stay-none-slice, walkOf, goes-none, goes-none-slice, Walks, ends-at, walked, walk-meets}
 use denote.Exit.{yes}
 use Rattle.descendants.specs.declared.walker.Walker.{Walker}
-use Rattle.memory.specs.declared.layout.Document.{Document}
-use Rattle.descendants.specs.declared.position.Position.{Position}
+use Rattle.layout.specs.declared.Document.{Document}
+use Rattle.steps.specs.declared.position.Position.{Position}
 use Rattle.descendants.proofs.walker.Walker as T
 use Rattle.descendants.proofs.walker.Walker.Laws as T′
-use Rattle.memory.proofs.layout.Document as E
-use Rattle.memory.proofs.layout.Document.Laws as E′
-use Rattle.descendants.proofs.position.Position as K
-use Rattle.descendants.proofs.position.Position.Laws as K′
+use Rattle.layout.proofs.Document as E
+use Rattle.layout.proofs.Document.Laws as E′
+use Rattle.steps.proofs.position.Position as K
+use Rattle.steps.proofs.position.Position.Laws as K′
 use Rattle.descendants.proofs.walker.hold.Key.{name as #descendants·walker·hold}
 use Rattle.descendants.proofs.walker.hold as hold
 use Rattle.descendants.proofs.walker.hold.Statement as stated

@@ -32,9 +32,9 @@ use denote.Triple.Table.{entered}
 use denote.Triple.Walked.{says, Stays, stay-none, walkOf, goes-none, Walks, ends-at, walked, walk-meets}
 use denote.Exit.{yes}
 use Rattle.descendants.specs.declared.walker.Walker.{Walker}
-use Rattle.descendants.specs.declared.position.Position.{Position}
-use Rattle.descendants.proofs.position.Position as K
-use Rattle.descendants.proofs.position.Position.Laws as K′
+use Rattle.steps.specs.declared.position.Position.{Position}
+use Rattle.steps.proofs.position.Position as K
+use Rattle.steps.proofs.position.Position.Laws as K′
 use Rattle.descendants.proofs.walker.Walker as T
 use Rattle.descendants.proofs.walker.Walker.Laws as T′
 use Rattle.descendants.proofs.walker.moved.Key.{name as #descendants·walker·moved}

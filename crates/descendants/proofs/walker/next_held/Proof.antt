@@ -40,16 +40,16 @@ use denote.Triple.Clauses.{ensured, lasts}
 use Rattle.descendants.specs.Contract.{nextOf}
 use Rattle.descendants.specs.declared.walker.Walker.{Walker}
 use Rattle.descendants.specs.declared.walk.NextAnswer.{NextAnswer}
-use Rattle.memory.specs.declared.layout.Document.{Document}
-use Rattle.descendants.specs.declared.position.Position.{Position}
+use Rattle.layout.specs.declared.Document.{Document}
+use Rattle.steps.specs.declared.position.Position.{Position}
 use Rattle.descendants.proofs.walker.Walker as T
 use Rattle.descendants.proofs.walker.Walker.Laws as T′
 use Rattle.descendants.proofs.walk.NextAnswer as S
 use Rattle.descendants.proofs.walk.NextAnswer.Laws as S′
-use Rattle.memory.proofs.layout.Document as E
-use Rattle.memory.proofs.layout.Document.Laws as E′
-use Rattle.descendants.proofs.position.Position as K
-use Rattle.descendants.proofs.position.Position.Laws as K′
+use Rattle.layout.proofs.Document as E
+use Rattle.layout.proofs.Document.Laws as E′
+use Rattle.steps.proofs.position.Position as K
+use Rattle.steps.proofs.position.Position.Laws as K′
 use Rattle.descendants.proofs.walker.hold as hold
 use Rattle.descendants.proofs.walker.hold.Symbol as hold-def
 use Rattle.descendants.proofs.walker.hold.Symbol.{name as #descendants·walker·hold}

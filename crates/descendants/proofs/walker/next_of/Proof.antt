@@ -48,10 +48,10 @@ use Rattle.descendants.proofs.walker.Walker as T
 use Rattle.descendants.proofs.walker.Walker.Laws as T′
 use Rattle.descendants.proofs.walk.NextAnswer as S
 use Rattle.descendants.proofs.walk.NextAnswer.Laws as S′
-use Rattle.memory.proofs.layout.Document as E
-use Rattle.memory.proofs.layout.Document.Laws as E′
-use Rattle.descendants.proofs.position.Position as C
-use Rattle.descendants.proofs.position.Position.Laws as C′
+use Rattle.layout.proofs.Document as E
+use Rattle.layout.proofs.Document.Laws as E′
+use Rattle.steps.proofs.position.Position as C
+use Rattle.steps.proofs.position.Position.Laws as C′
 use Rattle.descendants.proofs.walk.next as step
 use Rattle.descendants.proofs.walk.next.Symbol as step-def
 use Rattle.descendants.proofs.walk.next.Symbol.{name as #descendants·walk·next}

@@ -8,13 +8,19 @@ use Rattle.dumping.proofs.dump.name_lines.Statement.{statement}
 use Rattle.dumping.proofs.dump.name_lines.Tie as tie
 
 abbrev Inv-loop : tie.InvT-loop
-Inv-loop d mem out₀ at c next₀ k₀ out next k = (k ≤ c .names) × (length out ≡ length out₀)
+Inv-loop d mem out₀ at n next₀ k₀ out next k = (k ≤ n) × (length out ≡ length out₀)
 
 abbrev μ-loop : tie.MeasureT-loop
-μ-loop d mem out₀ at c next₀ k₀ out next k = c .names - k
+μ-loop d mem out₀ at n next₀ k₀ out next k = n - k
+
+least-requires : tie.Need-least-requires Inv-loop μ-loop
+least-requires c κs = search needs
 
 loop-holds : tie.Need-loop-holds Inv-loop μ-loop
 loop-holds c = search needs
+
+cast-t10 : tie.Need-cast-t10 Inv-loop μ-loop
+cast-t10 c = search needs
 
 name-line-requires : tie.Need-name-line-requires Inv-loop μ-loop
 name-line-requires c κs = search needs
@@ -40,7 +46,9 @@ name-lines-spec =
     (tie.spec
     Inv-loop
     μ-loop
+    least-requires
     loop-holds
+    cast-t10
     name-line-requires
     add-k
     loop-less

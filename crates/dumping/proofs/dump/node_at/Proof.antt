@@ -9,11 +9,11 @@ use Rattle.dumping.proofs.dump.node_at.Tie as tie
 memory-ok-requires : tie.Need-memory-ok-requires
 memory-ok-requires c κs = search needs
 
-cast-t12 : tie.Need-cast-t12
-cast-t12 c = search needs
+cast-if3 : tie.Need-cast-if3
+cast-if3 c = search needs
 
 load-requires : tie.Need-load-requires
-load-requires c κs = (sym (c .before .before .before .before .before .memory-ok .ensures) ∙ c .before .before .before .before .if2 .taken, omega arith)
+load-requires c κs = (sym (c .before .before .before .before .memory-ok .ensures) ∙ c .before .before .before .if2 .taken, omega arith)
 
 returns : tie.Need-returns
 returns c = search needs
@@ -27,18 +27,14 @@ returns-3 c = search needs
 returns-4 : tie.Need-returns-4
 returns-4 c = search needs
 
-returns-5 : tie.Need-returns-5
-returns-5 c = search needs
-
 pub node-at-spec : {M : Type 1} → statement M
 node-at-spec =
     tie.close
     (tie.spec
     memory-ok-requires
-    cast-t12
+    cast-if3
     load-requires
     returns
     returns-2
     returns-3
-    returns-4
-    returns-5)
+    returns-4)

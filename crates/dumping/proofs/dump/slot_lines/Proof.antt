@@ -8,10 +8,10 @@ use Rattle.dumping.proofs.dump.slot_lines.Statement.{statement}
 use Rattle.dumping.proofs.dump.slot_lines.Tie as tie
 
 abbrev Inv-loop : tie.InvT-loop
-Inv-loop d mem out₀ at generations next₀ k₀ out next k = (k ≤ length (generations)) × (length out ≡ length out₀)
+Inv-loop d mem out₀ at generations n next₀ k₀ out next k = (k ≤ n) × (length out ≡ length out₀)
 
 abbrev μ-loop : tie.MeasureT-loop
-μ-loop d mem out₀ at generations next₀ k₀ out next k = length (generations) - k
+μ-loop d mem out₀ at generations n next₀ k₀ out next k = n - k
 
 made-requires : tie.Need-made-requires Inv-loop μ-loop
 made-requires c κs = search needs
@@ -19,8 +19,14 @@ made-requires c κs = search needs
 words-between-requires : tie.Need-words-between-requires Inv-loop μ-loop
 words-between-requires c κs = search needs
 
+least-requires : tie.Need-least-requires Inv-loop μ-loop
+least-requires c κs = search needs
+
 loop-holds : tie.Need-loop-holds Inv-loop μ-loop
 loop-holds c = search needs
+
+cast-t11 : tie.Need-cast-t11 Inv-loop μ-loop
+cast-t11 c = search needs
 
 mul-slot-line : tie.Need-mul-slot-line Inv-loop μ-loop
 mul-slot-line c = search needs
@@ -54,7 +60,9 @@ slot-lines-spec =
     μ-loop
     made-requires
     words-between-requires
+    least-requires
     loop-holds
+    cast-t11
     mul-slot-line
     shared-slice-read-slot-line
     slot-line-requires

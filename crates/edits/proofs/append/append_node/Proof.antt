@@ -1,8 +1,8 @@
 -- `edits::append::append_node` meets its contract.
 -- Assumes nothing.
 use borrow.Author.Needs.{needs}
-use Rattle.slots.specs.Handles.{wordOf}
-use Rattle.memory.specs.Layout.{whichOf}
+use Rattle.records.specs.Handles.{wordOf}
+use Rattle.layout.specs.Layout.{whichOf}
 use Rattle.memory.specs.Decode.{kindOf}
 use Rattle.edits.proofs.Appending.{appended-ready, append-step}
 use Rattle.edits.proofs.append.append_node.Statement.{statement}

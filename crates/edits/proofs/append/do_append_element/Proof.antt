@@ -1,6 +1,6 @@
 -- `edits::append::do_append_element` meets its contract.
 -- Assumes nothing.
-use Rattle.slots.specs.Handles.{wordOf}
+use Rattle.records.specs.Handles.{wordOf}
 use Rattle.edits.proofs.Appends.{element-internable, element-ready, element-performed}
 use borrow.Author.Needs.{needs}
 use Rattle.edits.proofs.append.do_append_element.Statement.{statement}

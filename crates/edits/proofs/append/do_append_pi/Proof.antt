@@ -1,6 +1,6 @@
 -- `edits::append::do_append_pi` meets its contract.
 -- Assumes nothing.
-use Rattle.slots.specs.Handles.{wordOf}
+use Rattle.records.specs.Handles.{wordOf}
 use Rattle.edits.proofs.Appends.{pi-storable, pi-ready, pi-performed}
 use borrow.Author.Needs.{needs}
 use Rattle.edits.proofs.append.do_append_pi.Statement.{statement}

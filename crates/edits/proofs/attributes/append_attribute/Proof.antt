@@ -1,6 +1,6 @@
 -- `edits::attributes::append_attribute` meets its contract.
 -- Assumes nothing.
-use Rattle.slots.specs.Handles.{wordOf}
+use Rattle.records.specs.Handles.{wordOf}
 use Rattle.edits.proofs.ElementLists.{attribute-stores, attribute-ready, attribute-performed}
 use borrow.Author.Needs.{needs}
 use Rattle.edits.proofs.attributes.append_attribute.Statement.{statement}

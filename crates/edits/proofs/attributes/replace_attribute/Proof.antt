@@ -1,6 +1,6 @@
 -- `edits::attributes::replace_attribute` meets its contract.
 -- Assumes nothing.
-use Rattle.slots.specs.Handles.{wordOf}
+use Rattle.records.specs.Handles.{wordOf}
 use Rattle.edits.proofs.ElementLists.{value-replaceable, value-performed}
 use borrow.Author.Needs.{needs}
 use Rattle.edits.proofs.attributes.replace_attribute.Statement.{statement}

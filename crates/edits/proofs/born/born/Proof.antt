@@ -1,12 +1,15 @@
 -- `edits::born::born` meets its contract.
 -- Assumes nothing.
 use borrow.Author.Needs.{needs}
+use Rattle.edits.proofs.Taking.{can-take}
 use Rattle.edits.proofs.Bearing.{taken-memory, taken-slot, taken-next, born-step}
 use Rattle.edits.proofs.born.born.Statement.{statement}
 use Rattle.edits.proofs.born.born.Tie as tie
 
 take-slot-requires : tie.Need-take-slot-requires
-take-slot-requires c κs = search needs
+take-slot-requires c κs =
+    let s = c .before .before in
+    (s .pre .0 .memory, can-take (s .args .d) (s .args .mem .now) (s .pre .0))
 
 put-node-requires : tie.Need-put-node-requires
 put-node-requires c κs =

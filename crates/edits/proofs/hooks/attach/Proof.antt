@@ -2,8 +2,8 @@
 -- Assumes nothing.
 use native.Mathlib.Omega.{arith}
 use borrow.Author.Needs.{needs}
-use Rattle.slots.specs.Handles.{wordOf}
-use Rattle.memory.specs.Layout.{whichOf}
+use Rattle.records.specs.Handles.{wordOf}
+use Rattle.layout.specs.Layout.{whichOf}
 use Rattle.edits.proofs.Moved.{owner-open, attach-step}
 use Rattle.edits.proofs.hooks.attach.Statement.{statement}
 use Rattle.edits.proofs.hooks.attach.Tie as tie

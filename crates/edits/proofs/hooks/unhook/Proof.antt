@@ -1,7 +1,7 @@
 -- `edits::hooks::unhook` meets its contract.
 -- Assumes nothing.
 use borrow.Author.Needs.{needs}
-use Rattle.slots.specs.Handles.{wordOf}
+use Rattle.records.specs.Handles.{wordOf}
 use Rattle.edits.proofs.Moved.{unlinked-node, unhook-step}
 use Rattle.edits.proofs.hooks.unhook.Statement.{statement}
 use Rattle.edits.proofs.hooks.unhook.Tie as tie

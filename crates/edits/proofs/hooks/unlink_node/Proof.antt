@@ -2,7 +2,7 @@
 -- Assumes nothing.
 use native.Mathlib.Omega.{arith}
 use borrow.Author.Needs.{needs}
-use Rattle.memory.specs.Layout.{whichOf}
+use Rattle.layout.specs.Layout.{whichOf}
 use Rattle.edits.proofs.Moved.{parent-held, unlink-none, unlink-some}
 use Rattle.edits.proofs.hooks.unlink_node.Statement.{statement}
 use Rattle.edits.proofs.hooks.unlink_node.Tie as tie

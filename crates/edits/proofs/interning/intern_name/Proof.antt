@@ -1,21 +1,15 @@
 -- `edits::interning::intern_name` meets its contract.
 -- Assumes nothing.
-use native.Mathlib.Omega.{arith}
 use Rattle.names.specs.Table.{name}
-use Rattle.edits.proofs.Interned.{number-narrow, intern-step, interned-number}
+use Rattle.edits.proofs.Interned.{intern-asked, number-narrow, intern-step, interned-number}
 use borrow.Author.Needs.{needs}
 use Rattle.edits.proofs.interning.intern_name.Statement.{statement}
 use Rattle.edits.proofs.interning.intern_name.Tie as tie
 
 write-name-requires : tie.Need-write-name-requires
-write-name-requires c κs = search needs
-
-cast-t12 : tie.Need-cast-t12
-cast-t12 c =
-    let s = c .before .before .before .before .before .before .before in
-    let w = c .before .before .write-name in
-    let z = number-narrow (s .args .d) (s .args .mem .now) (name (s .args .namespace .now) (s .args .local .now)) (s .pre) _ (w .result) (w .ensures .0) in
-    omega arith
+write-name-requires c κs =
+    let s = c .before .before .before .before in
+    intern-asked (s .args .d) (s .args .mem .now) (name (s .args .namespace .now) (s .args .local .now)) (s .pre)
 
 with-names-requires : tie.Need-with-names-requires
 with-names-requires c κs = search needs
@@ -25,12 +19,12 @@ same-length c = search needs
 
 returns : tie.Need-returns
 returns c =
-    let s = c .before .before .before .before .before .before .before .before .before in
-    let w = c .before .before .before .before .write-name in (
+    let s = c .before .before .before .before .before .before .before .before .before .before in
+    let w = c .before .before .before .before .before .write-name in (
       intern-step (s .args .d) (s .args .mem .now) (name (s .args .namespace .now) (s .args .local .now)) (s .pre) _ (w .result) (w .ensures .0) (w .ensures .1) (c .with-names .result) (c .with-names .ensures),
       (interned-number (s .args .d) (s .args .mem .now) (name (s .args .namespace .now) (s .args .local .now)) (s .pre) _ (w .result) (w .ensures .0), number-narrow (s .args .d) (s .args .mem .now) (name (s .args .namespace .now) (s .args .local .now)) (s .pre) _ (w .result) (w .ensures .0)),
     )
 
 pub intern-name-spec : {M : Type 1} → statement M
 intern-name-spec =
-    tie.close (tie.spec write-name-requires cast-t12 with-names-requires same-length returns)
+    tie.close (tie.spec write-name-requires with-names-requires same-length returns)

@@ -2,8 +2,8 @@
 -- Assumes nothing.
 use native.Mathlib.Omega.{arith}
 use borrow.Author.Needs.{needs}
-use Rattle.slots.specs.Handles.{wordOf}
-use Rattle.memory.specs.Layout.{whichOf}
+use Rattle.records.specs.Handles.{wordOf}
+use Rattle.layout.specs.Layout.{whichOf}
 use Rattle.edits.proofs.Lists.{owner-slot, last-step}
 use Rattle.edits.proofs.moves.attach_last.Statement.{statement}
 use Rattle.edits.proofs.moves.attach_last.Tie as tie

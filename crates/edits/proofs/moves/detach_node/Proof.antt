@@ -1,6 +1,6 @@
 -- `edits::moves::detach_node` meets its contract.
 -- Assumes nothing.
-use Rattle.slots.specs.Handles.{wordOf}
+use Rattle.records.specs.Handles.{wordOf}
 use Rattle.edits.proofs.Moving.{admitted-hooked, detach-performed}
 use borrow.Author.Needs.{needs}
 use Rattle.edits.proofs.moves.detach_node.Statement.{statement}

@@ -1,7 +1,7 @@
 -- `edits::moves::do_insert_at` meets its contract.
 -- Assumes nothing.
 use borrow.Author.Needs.{needs}
-use Rattle.slots.specs.Handles.{wordOf}
+use Rattle.records.specs.Handles.{wordOf}
 use Rattle.edits.proofs.Lists.{moved-ready, insert-at-step}
 use Rattle.edits.proofs.moves.do_insert_at.Statement.{statement}
 use Rattle.edits.proofs.moves.do_insert_at.Tie as tie

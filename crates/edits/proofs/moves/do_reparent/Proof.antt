@@ -1,7 +1,7 @@
 -- `edits::moves::do_reparent` meets its contract.
 -- Assumes nothing.
 use borrow.Author.Needs.{needs}
-use Rattle.slots.specs.Handles.{wordOf}
+use Rattle.records.specs.Handles.{wordOf}
 use Rattle.edits.proofs.Lists.{moved-ready, reparent-step}
 use Rattle.edits.proofs.moves.do_reparent.Statement.{statement}
 use Rattle.edits.proofs.moves.do_reparent.Tie as tie

@@ -1,6 +1,6 @@
 -- `edits::moves::move_last` meets its contract.
 -- Assumes nothing.
-use Rattle.slots.specs.Handles.{wordOf}
+use Rattle.records.specs.Handles.{wordOf}
 use Rattle.edits.proofs.Moving.{admitted-last, last-performed}
 use borrow.Author.Needs.{needs}
 use Rattle.edits.proofs.moves.move_last.Statement.{statement}

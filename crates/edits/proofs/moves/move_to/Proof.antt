@@ -1,6 +1,6 @@
 -- `edits::moves::move_to` meets its contract.
 -- Assumes nothing.
-use Rattle.slots.specs.Handles.{wordOf}
+use Rattle.records.specs.Handles.{wordOf}
 use Rattle.edits.proofs.Moving.{admitted-at, at-performed}
 use borrow.Author.Needs.{needs}
 use Rattle.edits.proofs.moves.move_to.Statement.{statement}

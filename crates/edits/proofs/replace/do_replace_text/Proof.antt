@@ -2,7 +2,7 @@
 -- Assumes nothing.
 use native.Mathlib.Omega.{arith}
 use mathlib.Core.Path.{sym, _∙_}
-use Rattle.slots.specs.Handles.{wordOf}
+use Rattle.records.specs.Handles.{wordOf}
 use Rattle.edits.proofs.Moved.{node-slot, not-none}
 use Rattle.edits.proofs.Replaced.{replaced-node}
 use borrow.Author.Needs.{needs}

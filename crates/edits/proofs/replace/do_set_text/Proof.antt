@@ -1,6 +1,6 @@
 -- `edits::replace::do_set_text` meets its contract.
 -- Assumes nothing.
-use Rattle.slots.specs.Handles.{wordOf}
+use Rattle.records.specs.Handles.{wordOf}
 use Rattle.edits.proofs.Replaced.{set-ready, set-performed}
 use borrow.Author.Needs.{needs}
 use Rattle.edits.proofs.replace.do_set_text.Statement.{statement}

@@ -1,6 +1,6 @@
 -- `edits::replace::fill_field` meets its contract.
 -- Assumes nothing.
-use Rattle.slots.specs.Handles.{wordOf}
+use Rattle.records.specs.Handles.{wordOf}
 use Rattle.edits.proofs.Replaced.{fill-node, fill-step}
 use borrow.Author.Needs.{needs}
 use Rattle.edits.proofs.replace.fill_field.Statement.{statement}

@@ -1,12 +1,14 @@
 -- `edits::replace::replace_slot` meets its contract.
 -- Assumes nothing.
-use Rattle.edits.proofs.Fields.{over-step}
+use Rattle.edits.proofs.Fields.{over-asked, over-step}
 use borrow.Author.Needs.{needs}
 use Rattle.edits.proofs.replace.replace_slot.Statement.{statement}
 use Rattle.edits.proofs.replace.replace_slot.Tie as tie
 
 write-over-requires : tie.Need-write-over-requires
-write-over-requires c κs = search needs
+write-over-requires c κs =
+    let s = c .before .before .before in
+    over-asked (s .args .d) (s .args .mem .now) (s .args .slot .0) (s .args .text .now) (s .pre)
 
 with-texts-requires : tie.Need-with-texts-requires
 with-texts-requires c κs = search needs

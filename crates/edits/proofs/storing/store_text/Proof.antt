@@ -1,17 +1,17 @@
 -- `edits::storing::store_text` meets its contract.
 -- Assumes nothing.
-use Rattle.edits.proofs.Stored.{field-fits, store-step, stored-field}
+use Rattle.edits.proofs.Stored.{store-asked, store-step, stored-field}
 use borrow.Author.Needs.{needs}
 use Rattle.edits.proofs.storing.store_text.Statement.{statement}
 use Rattle.edits.proofs.storing.store_text.Tie as tie
 
 write-text-requires : tie.Need-write-text-requires
-write-text-requires c κs = search needs
+write-text-requires c κs =
+    let s = c .before .before .before in
+    store-asked (s .args .d) (s .args .mem .now) (s .args .text .now) (s .pre)
 
 chars-of-requires : tie.Need-chars-of-requires
-chars-of-requires c κs =
-    let s = c .before .before .before .before .before .before in
-    field-fits (s .args .d) (s .args .mem .now) (s .args .text .now) (s .pre) _ (c .before .before .write-text .result) (c .before .before .write-text .ensures .0)
+chars-of-requires c κs = search needs
 
 with-texts-requires : tie.Need-with-texts-requires
 with-texts-requires c κs = search needs

@@ -5,7 +5,7 @@ use native.Mathlib.Omega.{arith}
 use lib.ListN.{length}
 use Rattle.model.specs.Kinds.{children, attributes, namespaces}
 use Rattle.memory.specs.Decode.{slotsMade}
-use Rattle.memory.proofs.Limits.{sizes, memory-limits}
+use Rattle.layout.proofs.Sizes.{sizes, memory-limits}
 use Rattle.entries.specs.Nodes.{decodeNodes}
 use Rattle.entries.proofs.Words.{live-below}
 use Rattle.entries.proofs.Counting.{list-inside, list-passed, first-refused, second-refused, third}

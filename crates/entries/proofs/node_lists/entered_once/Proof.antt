@@ -1,8 +1,10 @@
 -- `entries::node_lists::entered_once` meets its contract.
 -- Assumes nothing.
 use mathlib.Core.Path.{sym, _∙_}
+use native.Mathlib.Omega.{arith}
 use borrow.Author.Tests.{eq-eqb, ne-eqb}
 use Rattle.entries.specs.Nodes.{decodeNodes}
+use Rattle.entries.proofs.Words.{live-narrow}
 use Rattle.entries.proofs.Counting.{entered-marked, entered-live, entered-free}
 use borrow.Author.Needs.{needs}
 use Rattle.entries.proofs.node_lists.entered_once.Statement.{statement}
@@ -15,6 +17,11 @@ returns c =
 
 is-live-requires : tie.Need-is-live-requires
 is-live-requires c κs = search needs
+
+cast-t8 : tie.Need-cast-t8
+cast-t8 c =
+    let s = c .before .before .before .before in
+    omega (arith, live-narrow (s .args .d) (s .args .mem .now) (s .pre .0) (s .args .s) (sym (c .before .is-live .ensures) ∙ c .if2 .taken))
 
 has-no-parent-requires : tie.Need-has-no-parent-requires
 has-no-parent-requires c κs = (c .before .before .before .before .pre .0, sym (c .before .is-live .ensures) ∙ c .if2 .taken)
@@ -31,4 +38,4 @@ returns-3 c =
 
 pub entered-once-spec : {M : Type 1} → statement M
 entered-once-spec =
-    tie.close (tie.spec returns is-live-requires has-no-parent-requires returns-2 returns-3)
+    tie.close (tie.spec returns is-live-requires cast-t8 has-no-parent-requires returns-2 returns-3)

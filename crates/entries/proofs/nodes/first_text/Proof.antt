@@ -1,9 +1,14 @@
 -- `entries::nodes::first_text` meets its contract.
 -- Assumes nothing.
 use native.Mathlib.Omega.{arith}
-use Rattle.entries.proofs.Words.{live-below, first-narrow, first-word}
+use Rattle.entries.proofs.Words.{live-below, live-narrow, first-narrow, first-word}
 use Rattle.entries.proofs.nodes.first_text.Statement.{statement}
 use Rattle.entries.proofs.nodes.first_text.Tie as tie
+
+cast-t5 : tie.Need-cast-t5
+cast-t5 c =
+    let s = c .before in
+    omega (arith, live-narrow (s .args .d) (s .args .mem .now) (s .pre .0) (s .args .s) (s .pre .1))
 
 record-word-requires : tie.Need-record-word-requires
 record-word-requires c κs =
@@ -21,4 +26,4 @@ returns c =
     rw (c .chars-of .ensures, c .before .record-word .ensures) (first-word (s .args .d) (s .args .mem .now) (s .args .s) (s .pre .1))
 
 pub first-text-spec : {M : Type 1} → statement M
-first-text-spec = tie.close (tie.spec record-word-requires chars-of-requires returns)
+first-text-spec = tie.close (tie.spec cast-t5 record-word-requires chars-of-requires returns)

@@ -3,7 +3,7 @@
 use mathlib.Core.Path.{_∙_}
 use native.Mathlib.Omega.{arith}
 use lib.ListN.{length}
-use Rattle.memory.proofs.Limits.{sizes}
+use Rattle.layout.proofs.Sizes.{sizes}
 use Rattle.entries.proofs.Words.{handle-read}
 use borrow.Author.Needs.{needs}
 use Rattle.entries.proofs.nodes.handle_of.Statement.{statement}

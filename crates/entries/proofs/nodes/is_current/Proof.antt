@@ -2,7 +2,7 @@
 -- Assumes nothing.
 use native.Mathlib.Omega.{arith}
 use lib.ListN.{length}
-use Rattle.memory.proofs.Limits.{sizes}
+use Rattle.layout.proofs.Sizes.{sizes}
 use Rattle.entries.proofs.EntryWords.{resolves-word}
 use borrow.Author.Needs.{needs}
 use Rattle.entries.proofs.nodes.is_current.Statement.{statement}

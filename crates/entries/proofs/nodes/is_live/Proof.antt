@@ -3,7 +3,7 @@
 use mathlib.Core.Path.{refl}
 use native.Mathlib.Omega.{arith}
 use lib.ListN.{length}
-use Rattle.memory.proofs.Limits.{sizes}
+use Rattle.layout.proofs.Sizes.{sizes}
 use Rattle.entries.proofs.Words.{live-word}
 use Rattle.entries.proofs.nodes.is_live.Statement.{statement}
 use Rattle.entries.proofs.nodes.is_live.Tie as tie

@@ -2,9 +2,14 @@
 -- Assumes nothing.
 use mathlib.Core.Path.{_∙_}
 use native.Mathlib.Omega.{arith}
-use Rattle.entries.proofs.Words.{live-below, kind-word}
+use Rattle.entries.proofs.Words.{live-below, live-narrow, kind-word}
 use Rattle.entries.proofs.nodes.kind_of.Statement.{statement}
 use Rattle.entries.proofs.nodes.kind_of.Tie as tie
+
+cast-t4 : tie.Need-cast-t4
+cast-t4 c =
+    let s = c .before in
+    omega (arith, live-narrow (s .args .d) (s .args .mem .now) (s .pre .0) (s .args .s) (s .pre .1))
 
 record-word-requires : tie.Need-record-word-requires
 record-word-requires c κs =
@@ -17,4 +22,4 @@ returns c =
     c .record-word .ensures ∙ kind-word (s .args .d) (s .args .mem .now) (s .args .s) (s .pre .1)
 
 pub kind-of-spec : {M : Type 1} → statement M
-kind-of-spec = tie.close (tie.spec record-word-requires returns)
+kind-of-spec = tie.close (tie.spec cast-t4 record-word-requires returns)

@@ -1,10 +1,15 @@
 -- `entries::nodes::parent_word` meets its contract.
 -- Assumes nothing.
 use native.Mathlib.Omega.{arith}
-use Rattle.entries.proofs.Words.{live-below}
+use Rattle.entries.proofs.Words.{live-below, live-narrow}
 use borrow.Author.Needs.{needs}
 use Rattle.entries.proofs.nodes.parent_word.Statement.{statement}
 use Rattle.entries.proofs.nodes.parent_word.Tie as tie
+
+cast-t4 : tie.Need-cast-t4
+cast-t4 c =
+    let s = c .before in
+    omega (arith, live-narrow (s .args .d) (s .args .mem .now) (s .pre .0) (s .args .s) (s .pre .1))
 
 record-word-requires : tie.Need-record-word-requires
 record-word-requires c κs =
@@ -16,4 +21,4 @@ returns c = search needs
 
 pub parent-word-spec : {M : Type 1} → statement M
 parent-word-spec =
-    tie.close (tie.spec record-word-requires returns)
+    tie.close (tie.spec cast-t4 record-word-requires returns)

@@ -4,7 +4,7 @@ use lib.ListN.{length}
 use Prim.Native.Nat.{ℕ}
 use Rattle.model.specs.Calls.{append-comment}
 use Rattle.exports.specs.Contract.{asMade}
-use Rattle.exports.proofs.Records.{whole}
+use Rattle.encoding.proofs.Records.{whole}
 use Rattle.exports.proofs.Exporting.{by-word, too-short, makes}
 use borrow.Author.Needs.{needs}
 use Rattle.exports.proofs.append.oxml_append_comment.Statement.{statement}

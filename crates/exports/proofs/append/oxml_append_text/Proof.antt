@@ -1,7 +1,7 @@
 -- `exports::append::oxml_append_text` meets its contract.
 -- Assumes nothing.
 use Rattle.exports.proofs.Exporting.{by-word, too-short, makes}
-use Rattle.exports.proofs.Records.{whole}
+use Rattle.encoding.proofs.Records.{whole}
 use Rattle.exports.specs.Contract.{asMade}
 use Prim.Native.Nat.{ℕ}
 use Rattle.model.specs.Calls.{append-text}

@@ -4,7 +4,7 @@ use mathlib.Core.List.{[]}
 use Prim.Native.Nat.{ℕ}
 use Rattle.model.specs.Calls.{set-text}
 use Rattle.exports.specs.Contract.{asDone}
-use Rattle.exports.proofs.Records.{whole}
+use Rattle.encoding.proofs.Records.{whole}
 use Rattle.exports.proofs.Exporting.{by-word, too-short, does}
 use borrow.Author.Needs.{needs}
 use Rattle.exports.proofs.change.oxml_set_text.Statement.{statement}

@@ -3,9 +3,9 @@
 use mathlib.Core.Path.{refl}
 use lib.ListN.{length}
 use Rattle.model.specs.Calls.{name-of}
-use Rattle.exports.specs.Given.{nameWords}
+use Rattle.encoding.specs.Given.{nameWords}
 use Rattle.exports.specs.Contract.{asName}
-use Rattle.exports.proofs.Records.{whole}
+use Rattle.encoding.proofs.Records.{whole}
 use Rattle.exports.proofs.Reading.{tells-name, read-short, shows}
 use borrow.Author.Needs.{needs}
 use Rattle.exports.proofs.list.oxml_name.Statement.{statement}

@@ -1,7 +1,7 @@
 -- `exports::list::oxml_nodes` meets its contract.
 -- Assumes nothing.
 use lib.ListN.{length}
-use Rattle.exports.proofs.Records.{whole}
+use Rattle.encoding.proofs.Records.{whole}
 use Rattle.exports.proofs.Showing.{nodes-short, nodes-shown}
 use borrow.Author.Needs.{needs}
 use Rattle.exports.proofs.list.oxml_nodes.Statement.{statement}

@@ -1,11 +1,11 @@
 -- `exports::moves::oxml_reparent` meets its contract.
 -- Assumes nothing.
-use Rattle.slots.specs.Handles.{wordOf}
+use Rattle.records.specs.Handles.{wordOf}
 use mathlib.Core.List.{[]}
 use Prim.Native.Nat.{ℕ}
 use Rattle.model.specs.Calls.{reparent}
 use Rattle.exports.specs.Contract.{asDone}
-use Rattle.exports.proofs.Records.{whole}
+use Rattle.encoding.proofs.Records.{whole}
 use Rattle.exports.proofs.Exporting.{by-word, too-short, does}
 use borrow.Author.Needs.{needs}
 use Rattle.exports.proofs.moves.oxml_reparent.Statement.{statement}

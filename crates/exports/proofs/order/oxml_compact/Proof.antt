@@ -3,7 +3,7 @@
 use mathlib.Core.List.{[]}
 use Rattle.model.specs.Calls.{compact}
 use Rattle.exports.specs.Contract.{asDone}
-use Rattle.exports.proofs.Records.{whole}
+use Rattle.encoding.proofs.Records.{whole}
 use Rattle.exports.proofs.Exporting.{too-short, does}
 use borrow.Author.Needs.{needs}
 use Rattle.exports.proofs.order.oxml_compact.Statement.{statement}

@@ -3,7 +3,7 @@
 use mathlib.Core.List.{[]}
 use Rattle.model.specs.Calls.{document-order}
 use Rattle.exports.specs.Contract.{asOrder}
-use Rattle.exports.proofs.Records.{whole}
+use Rattle.encoding.proofs.Records.{whole}
 use Rattle.exports.proofs.Exporting.{too-short, orders}
 use borrow.Author.Needs.{needs}
 use Rattle.exports.proofs.order.oxml_document_order.Statement.{statement}

@@ -4,9 +4,9 @@ use lib.ListN.{length}
 use Prim.Native.Nat.{ℕ}
 use Rattle.model.specs.Kinds.{attributes}
 use Rattle.model.specs.Calls.{attribute-nodes}
-use Rattle.exports.specs.Given.{listWords}
+use Rattle.encoding.specs.Given.{listWords}
 use Rattle.exports.specs.Contract.{asList}
-use Rattle.exports.proofs.Records.{whole}
+use Rattle.encoding.proofs.Records.{whole}
 use Rattle.exports.proofs.Reading.{tells-list, read-word, read-short, shows}
 use borrow.Author.Needs.{needs}
 use Rattle.exports.proofs.read.oxml_attribute_nodes.Statement.{statement}

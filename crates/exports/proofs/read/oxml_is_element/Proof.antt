@@ -3,9 +3,9 @@
 use lib.ListN.{length}
 use Prim.Native.Nat.{ℕ}
 use Rattle.model.specs.Calls.{is-element}
-use Rattle.exports.specs.Given.{truthWords}
+use Rattle.encoding.specs.Given.{truthWords}
 use Rattle.exports.specs.Contract.{asTruth}
-use Rattle.exports.proofs.Records.{whole}
+use Rattle.encoding.proofs.Records.{whole}
 use Rattle.exports.proofs.Reading.{tells-truth, read-word, read-short, shows}
 use borrow.Author.Needs.{needs}
 use Rattle.exports.proofs.read.oxml_is_element.Statement.{statement}

@@ -3,9 +3,9 @@
 use lib.ListN.{length}
 use Prim.Native.Nat.{ℕ}
 use Rattle.model.specs.Calls.{kind-of}
-use Rattle.exports.specs.Given.{kindWords}
+use Rattle.encoding.specs.Given.{kindWords}
 use Rattle.exports.specs.Contract.{asKind}
-use Rattle.exports.proofs.Records.{whole}
+use Rattle.encoding.proofs.Records.{whole}
 use Rattle.exports.proofs.Reading.{tells-kind, read-word, read-short, shows}
 use borrow.Author.Needs.{needs}
 use Rattle.exports.proofs.read.oxml_kind.Statement.{statement}

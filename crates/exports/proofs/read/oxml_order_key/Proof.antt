@@ -3,9 +3,9 @@
 use lib.ListN.{length}
 use Prim.Native.Nat.{ℕ}
 use Rattle.model.specs.Calls.{order-key}
-use Rattle.exports.specs.Given.{keyWords}
+use Rattle.encoding.specs.Given.{keyWords}
 use Rattle.exports.specs.Contract.{asKey}
-use Rattle.exports.proofs.Records.{whole}
+use Rattle.encoding.proofs.Records.{whole}
 use Rattle.exports.proofs.Reading.{tells-key, read-word, read-short, shows}
 use borrow.Author.Needs.{needs}
 use Rattle.exports.proofs.read.oxml_order_key.Statement.{statement}

@@ -3,9 +3,9 @@
 use lib.ListN.{length}
 use Prim.Native.Nat.{ℕ}
 use Rattle.model.specs.Calls.{parent-of}
-use Rattle.exports.specs.Given.{nodeWords}
+use Rattle.encoding.specs.Given.{nodeWords}
 use Rattle.exports.specs.Contract.{asNode}
-use Rattle.exports.proofs.Records.{whole}
+use Rattle.encoding.proofs.Records.{whole}
 use Rattle.exports.proofs.Reading.{tells-node, read-word, read-short, shows}
 use borrow.Author.Needs.{needs}
 use Rattle.exports.proofs.read.oxml_parent.Statement.{statement}

@@ -2,9 +2,9 @@
 -- Assumes nothing.
 use lib.ListN.{length}
 use Rattle.model.specs.Calls.{root-of}
-use Rattle.exports.specs.Given.{rootWords}
+use Rattle.encoding.specs.Given.{rootWords}
 use Rattle.exports.specs.Contract.{asMade}
-use Rattle.exports.proofs.Records.{whole}
+use Rattle.encoding.proofs.Records.{whole}
 use Rattle.exports.proofs.Reading.{tells-root, read-short, shows}
 use borrow.Author.Needs.{needs}
 use Rattle.exports.proofs.read.oxml_root.Statement.{statement}

@@ -2,9 +2,9 @@
 -- Assumes nothing.
 use lib.ListN.{length}
 use Rattle.model.specs.Calls.{root-element}
-use Rattle.exports.specs.Given.{nodeWords}
+use Rattle.encoding.specs.Given.{nodeWords}
 use Rattle.exports.specs.Contract.{asNode}
-use Rattle.exports.proofs.Records.{whole}
+use Rattle.encoding.proofs.Records.{whole}
 use Rattle.exports.proofs.Reading.{tells-node, read-short, shows}
 use borrow.Author.Needs.{needs}
 use Rattle.exports.proofs.read.oxml_root_element.Statement.{statement}

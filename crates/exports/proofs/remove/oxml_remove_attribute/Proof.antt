@@ -4,7 +4,7 @@ use lib.ListN.{length}
 use Prim.Native.Nat.{ℕ}
 use Rattle.model.specs.Calls.{remove-attribute}
 use Rattle.exports.specs.Contract.{asTruth}
-use Rattle.exports.proofs.Records.{whole}
+use Rattle.encoding.proofs.Records.{whole}
 use Rattle.exports.proofs.Exporting.{by-word, too-short, finds}
 use borrow.Author.Needs.{needs}
 use Rattle.exports.proofs.remove.oxml_remove_attribute.Statement.{statement}

@@ -1,10 +1,10 @@
 -- `exports::show::oxml_entries` meets its contract.
 -- Assumes nothing.
-use Rattle.memory.specs.declared.layout.Document.{Document}
-use Rattle.exports.specs.Records.{documentOf}
+use Rattle.layout.specs.declared.Document.{Document}
+use Rattle.encoding.specs.Records.{documentOf}
 use Rattle.blocks.specs.Arena.{block}
 use Rattle.exports.specs.Contract.{entriesTold}
-use Rattle.exports.proofs.Records.{whole}
+use Rattle.encoding.proofs.Records.{whole}
 use Rattle.exports.proofs.Showing.{shows-none, shows-part}
 use borrow.Author.Needs.{needs}
 use Rattle.exports.proofs.show.oxml_entries.Statement.{statement}

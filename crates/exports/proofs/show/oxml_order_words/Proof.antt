@@ -1,9 +1,9 @@
 -- `exports::show::oxml_order_words` meets its contract.
 -- Assumes nothing.
-use Rattle.memory.specs.declared.layout.Document.{Document}
-use Rattle.exports.specs.Records.{documentOf}
+use Rattle.layout.specs.declared.Document.{Document}
+use Rattle.encoding.specs.Records.{documentOf}
 use Rattle.reading.specs.Answers.{orderShown}
-use Rattle.exports.proofs.Records.{whole}
+use Rattle.encoding.proofs.Records.{whole}
 use Rattle.exports.proofs.Showing.{shows-none, shows-part}
 use borrow.Author.Needs.{needs}
 use Rattle.exports.proofs.show.oxml_order_words.Statement.{statement}

@@ -1,7 +1,7 @@
 -- `exports::show::show_block` meets its contract.
 -- Assumes nothing.
 use native.Mathlib.Omega.{arith}
-use Rattle.memory.specs.Layout.{whichOf}
+use Rattle.layout.specs.Layout.{whichOf}
 use Rattle.exports.proofs.Beyond.{no-entries}
 use borrow.Author.Needs.{needs}
 use Rattle.exports.proofs.show.show_block.Statement.{statement}

@@ -1,6 +1,6 @@
 -- `exports::start::oxml_start` meets its contract.
 -- Assumes nothing.
-use Rattle.exports.proofs.Records.{whole}
+use Rattle.encoding.proofs.Records.{whole}
 use Rattle.exports.proofs.Exporting.{start-short, starts}
 use borrow.Author.Needs.{needs}
 use Rattle.exports.proofs.start.oxml_start.Statement.{statement}

@@ -1,7 +1,7 @@
 -- `exports::walk::oxml_descendants_of` meets its contract.
 -- Assumes nothing.
 use lib.ListN.{length}
-use Rattle.exports.proofs.Records.{whole}
+use Rattle.encoding.proofs.Records.{whole}
 use Rattle.exports.proofs.Walks.{start-short, start-given}
 use borrow.Author.Needs.{needs}
 use Rattle.exports.proofs.walk.oxml_descendants_of.Statement.{statement}

@@ -1,7 +1,7 @@
 -- `exports::walk::oxml_list_below` meets its contract.
 -- Assumes nothing.
 use lib.ListN.{length}
-use Rattle.exports.proofs.Records.{whole}
+use Rattle.encoding.proofs.Records.{whole}
 use Rattle.exports.proofs.Walks.{below-short, below-given}
 use borrow.Author.Needs.{needs}
 use Rattle.exports.proofs.walk.oxml_list_below.Statement.{statement}

@@ -2,7 +2,7 @@
 -- Assumes nothing.
 use native.Mathlib.Omega.{arith}
 use lib.ListN.{length}
-use Rattle.exports.proofs.Records.{whole}
+use Rattle.encoding.proofs.Records.{whole}
 use Rattle.exports.proofs.Walks.{next-few, next-short, next-given}
 use borrow.Author.Needs.{needs}
 use Rattle.exports.proofs.walk.oxml_walk_next.Statement.{statement}

@@ -1,74 +1,14 @@
 -- `freeing::release::reclaim_texts` meets its contract.
 -- Assumes nothing.
-use native.Mathlib.Omega.{arith}
-use lib.ListN.{length}
-use Rattle.memory.proofs.Limits.{memory-limits}
-use Rattle.memory.proofs.Lent.{ends}
-use Rattle.freeing.proofs.Lent.{marks-inside, marks-lent, texts-reclaimable, texts-reclaimed}
+use Rattle.freeing.proofs.Lent.{texts-reclaimable, texts-reclaimed}
 use borrow.Author.Needs.{needs}
 use Rattle.freeing.proofs.release.reclaim_texts.Statement.{statement}
 use Rattle.freeing.proofs.release.reclaim_texts.Tie as tie
 
-text-limits-requires : tie.Need-text-limits-requires
-text-limits-requires c κs = search needs
-
-text-counts-requires : tie.Need-text-counts-requires
-text-counts-requires c κs = search needs
-
-texts-at-requires : tie.Need-texts-at-requires
-texts-at-requires c κs =
-    let s = c .before .before .before .before .before .before in
-    memory-limits (s .args .d) (length (s .args .mem .now)) (s .pre .0)
-
-mul-end : tie.Need-mul-end
-mul-end c = search needs
-
-add-end : tie.Need-add-end
-add-end c =
-    let s = c .before .before .before .before .before .before .before .before .before in
-    let z = ends (s .args .d) (length (s .args .mem .now)) (s .pre .0) in
-    omega (arith, c .before .before .texts-at .ensures)
-
-add-end-2 : tie.Need-add-end-2
-add-end-2 c =
-    let s = c .before .before .before .before .before .before .before .before .before in
-    let z = ends (s .args .d) (length (s .args .mem .now)) (s .pre .0) in
-    omega (arith, c .before .before .texts-at .ensures)
-
-mul-reclaim : tie.Need-mul-reclaim
-mul-reclaim c =
-    let s = c .before .before .before .before .before .before .before .before .before in
-    let z = ends (s .args .d) (length (s .args .mem .now)) (s .pre .0) in
-    omega (arith, c .before .before .texts-at .ensures)
-
-sub-reclaim : tie.Need-sub-reclaim
-sub-reclaim c = search needs
-
-part-reclaim-start : tie.Need-part-reclaim-start
-part-reclaim-start c = search needs
-
-part-reclaim-end : tie.Need-part-reclaim-end
-part-reclaim-end c =
-    let s = c .before .before .before .before .before .before .before .before .before in
-    let z = ends (s .args .d) (length (s .args .mem .now)) (s .pre .0) in
-    omega (arith, c .before .before .texts-at .ensures)
-
-sub-reclaim-2 : tie.Need-sub-reclaim-2
-sub-reclaim-2 c = search needs
-
-part-reclaim-start-2 : tie.Need-part-reclaim-start-2
-part-reclaim-start-2 c = search needs
-
-part-reclaim-end-2 : tie.Need-part-reclaim-end-2
-part-reclaim-end-2 c =
-    let s = c .before .before .before .before .before .before .before .before .before .before in
-    marks-inside (s .args .d) (s .args .mem .now) (s .pre .0) (s .pre .2) (s .args .scratch .now) (s .pre .1)
-
-reclaim-requires : tie.Need-reclaim-requires
-reclaim-requires c κs =
-    let s = c .before .before .before .before .before .before .before .before .before .before .before in
-    let a = s .args in
-    rw (c .before .before .before .before .before .before .before .before .text-limits .ensures, c .before .before .before .before .before .before .before .text-counts .ensures) (texts-reclaimable (a .d) (a .mem .now) (s .pre .0) (s .pre .2) _ (c .before .before .before .before .texts-at .ensures), marks-lent (a .d) (a .mem .now) (s .pre .0) (s .pre .2) (a .scratch .now) (s .pre .1))
+give-back-requires : tie.Need-give-back-requires
+give-back-requires c κs =
+    let s = c .before .before .before .before in
+    texts-reclaimable (s .args .d) (s .args .mem .now) (s .pre .0) (s .pre .2) (s .args .scratch .now) (s .pre .1)
 
 with-texts-requires : tie.Need-with-texts-requires
 with-texts-requires c κs = search needs
@@ -81,30 +21,9 @@ same-length-2 c = search needs
 
 returns : tie.Need-returns
 returns c =
-    let s = c .before .before .before .before .before .before .before .before .before .before .before .before .before .before .before .before .before in
-    let a = s .args in
-    let got = c .before .before .before .before .before .reclaim in
-    texts-reclaimed (a .d) (a .mem .now) (s .pre .0) (s .pre .2) _ (c .before .before .before .before .before .before .before .before .before .before .texts-at .ensures) (got .result) _ (rw (c .before .before .before .before .before .before .before .before .before .before .before .before .before .before .text-limits .ensures, c .before .before .before .before .before .before .before .before .before .before .before .before .before .text-counts .ensures) at (got .ensures)) _ (c .with-texts .ensures)
+    let s = c .before .before .before .before .before .before .before .before .before .before in
+    let got = c .before .before .before .before .before .give-back in
+    texts-reclaimed (s .args .d) (s .args .mem .now) (s .pre .0) (s .pre .2) _ (got .result) (got .ensures .0) (got .ensures .1) _ (c .with-texts .ensures)
 
 pub reclaim-texts-spec : {M : Type 1} → statement M
-reclaim-texts-spec =
-    tie.close
-    (tie.spec
-    text-limits-requires
-    text-counts-requires
-    texts-at-requires
-    mul-end
-    add-end
-    add-end-2
-    mul-reclaim
-    sub-reclaim
-    part-reclaim-start
-    part-reclaim-end
-    sub-reclaim-2
-    part-reclaim-start-2
-    part-reclaim-end-2
-    reclaim-requires
-    with-texts-requires
-    same-length
-    same-length-2
-    returns)
+reclaim-texts-spec = tie.close (tie.spec give-back-requires with-texts-requires same-length same-length-2 returns)

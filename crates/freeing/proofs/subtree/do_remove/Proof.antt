@@ -1,7 +1,7 @@
 -- `freeing::subtree::do_remove` meets its contract.
 -- Assumes nothing.
 use lib.ListN.{length}
-use Rattle.slots.specs.Handles.{wordOf}
+use Rattle.records.specs.Handles.{wordOf}
 use Rattle.freeing.proofs.Removed.{node-hooked, alone-freeable, node-removed}
 use borrow.Author.Needs.{needs}
 use Rattle.freeing.proofs.subtree.do_remove.Statement.{statement}

@@ -3,8 +3,8 @@
 use mathlib.Core.Path.{ap, _∙_}
 use native.Mathlib.Omega.{arith}
 use lib.ListN.{length, getD, length-set}
-use Rattle.slots.specs.Handles.{wordOf}
-use Rattle.slots.specs.declared.NodeId.{NodeId}
+use Rattle.records.specs.Handles.{wordOf}
+use Rattle.records.specs.declared.NodeId.{NodeId}
 use Rattle.memory.specs.Decode.{decode}
 use Rattle.freeing.proofs.Turns.{Freeing, stack-some, room-set, lowest-freeable, lowest-first, lowest-last, height-short, turn-left, memory-freed, lists-held, stack-room, node-freeable, freeing-next, freeing-last}
 use Rattle.freeing.proofs.subtree.free_nodes.Statement.{statement}

@@ -3,7 +3,7 @@
 use mathlib.Core.Path.{_≡_}
 use native.Mathlib.Omega.{arith}
 use lib.ListN.{length}
-use Rattle.slots.specs.Handles.{wordOf}
+use Rattle.records.specs.Handles.{wordOf}
 use Rattle.freeing.proofs.Removed.{nodes-reclaimable, subtree-freed}
 use borrow.Author.Needs.{needs}
 use Rattle.freeing.proofs.subtree.free_subtree.Statement.{statement}

@@ -2,8 +2,9 @@
 -- Assumes nothing.
 use native.Mathlib.Omega.{arith}
 use lib.ListN.{length}
-use Rattle.memory.proofs.Limits.{sizes}
+use Rattle.layout.proofs.Sizes.{sizes}
 use Rattle.memory.proofs.Words.{record-word}
+use borrow.Author.Needs.{needs}
 use Rattle.memory.proofs.fields.record_word.Statement.{statement}
 use Rattle.memory.proofs.fields.record_word.Tie as tie
 
@@ -12,6 +13,9 @@ mul-result c =
     let s = c .before in
     let z = sizes (s .args .d) (length (s .args .mem .now)) (s .pre .0) in
     omega arith
+
+cast-result : tie.Need-cast-result
+cast-result c = search needs
 
 mul-result-2 : tie.Need-mul-result-2
 mul-result-2 c =
@@ -46,13 +50,14 @@ shared-slice-read-result c =
 returns : tie.Need-returns
 returns c =
     let s = c .before .before in
-    record-word (s .args .d) (s .args .mem .now) (s .args .s) (s .args .word) (s .pre .1) (s .pre .2)
+    record-word (s .args .d) (s .args .mem .now) (s .args .slot .0) (s .args .word) (s .pre .1) (s .pre .2)
 
 pub record-word-spec : {M : Type 1} → statement M
 record-word-spec =
     tie.close
     (tie.spec
     mul-result
+    cast-result
     mul-result-2
     add-result
     add-result-2

@@ -2,8 +2,8 @@
 -- Assumes nothing.
 use native.Mathlib.Omega.{arith}
 use lib.ListN.{length}
-use Rattle.memory.specs.Layout.{whichOf}
-use Rattle.memory.proofs.Limits.{sizes, memory-limits}
+use Rattle.layout.specs.Layout.{whichOf}
+use Rattle.layout.proofs.Sizes.{sizes, memory-limits}
 use Rattle.memory.proofs.Reading.{entry-read}
 use Rattle.memory.proofs.read.entry.Statement.{statement}
 use Rattle.memory.proofs.read.entry.Tie as tie

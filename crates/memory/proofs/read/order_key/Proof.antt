@@ -3,7 +3,7 @@
 use native.Mathlib.Omega.{arith}
 use lib.ListN.{length}
 use borrow.Author.Needs.{needs}
-use Rattle.memory.proofs.Limits.{sizes}
+use Rattle.layout.proofs.Sizes.{sizes}
 use Rattle.memory.proofs.Reading.{slots-lent}
 use Rattle.memory.proofs.read.order_key.Statement.{statement}
 use Rattle.memory.proofs.read.order_key.Tie as tie

@@ -14,9 +14,6 @@ name-limits-requires c κs = search needs
 name-counts-requires : tie.Need-name-counts-requires
 name-counts-requires c κs = search needs
 
-cast-has-name : tie.Need-cast-has-name
-cast-has-name c = search needs
-
 has-name-requires : tie.Need-has-name-requires
 has-name-requires c κs =
     let s = c .before .before .before .before in
@@ -35,6 +32,5 @@ has-name-spec =
     names-words-requires
     name-limits-requires
     name-counts-requires
-    cast-has-name
     has-name-requires
     returns)

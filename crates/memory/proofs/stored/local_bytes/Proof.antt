@@ -14,9 +14,6 @@ name-limits-requires c κs = search needs
 name-counts-requires : tie.Need-name-counts-requires
 name-counts-requires c κs = search needs
 
-cast-read-local : tie.Need-cast-read-local
-cast-read-local c = search needs
-
 read-local-requires : tie.Need-read-local-requires
 read-local-requires c κs =
     let s = c .before .before .before .before in
@@ -35,6 +32,5 @@ local-bytes-spec =
     names-words-requires
     name-limits-requires
     name-counts-requires
-    cast-read-local
     read-local-requires
     returns)

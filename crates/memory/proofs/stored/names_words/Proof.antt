@@ -2,7 +2,7 @@
 -- Assumes nothing.
 use native.Mathlib.Omega.{arith}
 use lib.ListN.{length}
-use Rattle.memory.proofs.Limits.{memory-limits}
+use Rattle.layout.proofs.Sizes.{memory-limits}
 use Rattle.memory.proofs.Lent.{ends, names-lent}
 use borrow.Author.Needs.{needs}
 use Rattle.memory.proofs.stored.names_words.Statement.{statement}

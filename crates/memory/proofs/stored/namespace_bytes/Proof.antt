@@ -14,9 +14,6 @@ name-limits-requires c κs = search needs
 name-counts-requires : tie.Need-name-counts-requires
 name-counts-requires c κs = search needs
 
-cast-read-namespace : tie.Need-cast-read-namespace
-cast-read-namespace c = search needs
-
 read-namespace-requires : tie.Need-read-namespace-requires
 read-namespace-requires c κs =
     let s = c .before .before .before .before in
@@ -35,6 +32,5 @@ namespace-bytes-spec =
     names-words-requires
     name-limits-requires
     name-counts-requires
-    cast-read-namespace
     read-namespace-requires
     returns)

@@ -14,9 +14,6 @@ text-limits-requires c κs = search needs
 text-counts-requires : tie.Need-text-counts-requires
 text-counts-requires c κs = search needs
 
-cast-read-text : tie.Need-cast-read-text
-cast-read-text c = search needs
-
 read-text-requires : tie.Need-read-text-requires
 read-text-requires c κs =
     let s = c .before .before .before .before in
@@ -35,6 +32,5 @@ slot-bytes-spec =
     texts-words-requires
     text-limits-requires
     text-counts-requires
-    cast-read-text
     read-text-requires
     returns)

@@ -1,6 +1,6 @@
 -- `moving::moves::insert_at` meets its contract.
 -- Assumes nothing.
-use Rattle.slots.specs.Handles.{wordOf}
+use Rattle.records.specs.Handles.{wordOf}
 use Rattle.model.specs.Calls.{insert-at}
 use Rattle.editing.proofs.Editing.{opened, undamaged, not-admitted, edits}
 use borrow.Author.Needs.{needs}

@@ -1,6 +1,6 @@
 -- `plans::listing::attribute_fits` meets its contract.
 -- Assumes nothing.
-use Rattle.slots.specs.Handles.{wordOf}
+use Rattle.records.specs.Handles.{wordOf}
 use Rattle.memory.specs.Decode.{decode}
 use Rattle.names.specs.Table.{name}
 use Rattle.plans.proofs.Planned.{attribute-live, set-found, set-new}

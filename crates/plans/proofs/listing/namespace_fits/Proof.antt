@@ -1,6 +1,6 @@
 -- `plans::listing::namespace_fits` meets its contract.
 -- Assumes nothing.
-use Rattle.slots.specs.Handles.{wordOf}
+use Rattle.records.specs.Handles.{wordOf}
 use Rattle.memory.specs.Decode.{decode}
 use Rattle.plans.proofs.Planned.{namespace-live, declare-found, declare-new}
 use borrow.Author.Needs.{needs}

@@ -1,6 +1,6 @@
 -- `plans::listing::plan_declare_namespace` meets its contract.
 -- Assumes nothing.
-use Rattle.slots.specs.Handles.{wordOf}
+use Rattle.records.specs.Handles.{wordOf}
 use Rattle.memory.specs.Decode.{decode}
 use Rattle.plans.proofs.Planned.{not-accepted, declare-refused, declare-planned, declare-live}
 use borrow.Author.Needs.{needs}

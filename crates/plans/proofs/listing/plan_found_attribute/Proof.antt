@@ -1,8 +1,8 @@
 -- `plans::listing::plan_found_attribute` meets its contract.
 -- Assumes nothing.
-use Rattle.slots.specs.Handles.{wordOf}
+use Rattle.records.specs.Handles.{wordOf}
 use Rattle.memory.specs.Decode.{decode}
-use Rattle.plans.proofs.Verdicts.{refused-before, accepted-before}
+use Rattle.verdicts.proofs.Verdicts.{refused-before, accepted-before}
 use Rattle.plans.proofs.Planned.{element-live, set-planned}
 use borrow.Author.Needs.{needs}
 use Rattle.plans.proofs.listing.plan_found_attribute.Statement.{statement}

@@ -1,6 +1,6 @@
 -- `plans::listing::plan_set_attribute` meets its contract.
 -- Assumes nothing.
-use Rattle.slots.specs.Handles.{wordOf}
+use Rattle.records.specs.Handles.{wordOf}
 use Rattle.memory.specs.Decode.{decode}
 use Rattle.plans.proofs.Planned.{element-live, not-accepted, place-accepted, set-refused}
 use borrow.Author.Needs.{needs}

@@ -1,6 +1,6 @@
 -- `plans::lists::check_declare_namespace` meets its contract.
 -- Assumes nothing.
-use Rattle.plans.proofs.Verdicts.{refused-twice, accepted-twice}
+use Rattle.verdicts.proofs.Verdicts.{refused-twice, accepted-twice}
 use borrow.Author.Needs.{needs}
 use Rattle.plans.proofs.lists.check_declare_namespace.Statement.{statement}
 use Rattle.plans.proofs.lists.check_declare_namespace.Tie as tie

@@ -1,6 +1,6 @@
 -- `plans::lists::check_remove_attribute` meets its contract.
 -- Assumes nothing.
-use Rattle.plans.proofs.Verdicts.{first-same}
+use Rattle.verdicts.proofs.Verdicts.{first-same}
 use borrow.Author.Needs.{needs}
 use Rattle.plans.proofs.lists.check_remove_attribute.Statement.{statement}
 use Rattle.plans.proofs.lists.check_remove_attribute.Tie as tie

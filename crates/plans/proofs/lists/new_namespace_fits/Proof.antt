@@ -1,9 +1,9 @@
 -- `plans::lists::new_namespace_fits` meets its contract.
 -- Assumes nothing.
-use Rattle.slots.specs.Handles.{wordOf}
+use Rattle.records.specs.Handles.{wordOf}
 use Rattle.memory.specs.Decode.{decode}
 use Rattle.model.specs.Kinds.{namespaces}
-use Rattle.plans.proofs.Appended.{fits-both, fits-neither}
+use Rattle.room.proofs.Room.{fits-both, fits-neither}
 use borrow.Author.Needs.{needs}
 use Rattle.plans.proofs.lists.new_namespace_fits.Statement.{statement}
 use Rattle.plans.proofs.lists.new_namespace_fits.Tie as tie

@@ -1,10 +1,10 @@
 -- `plans::setting::check_set_text` meets its contract.
 -- Assumes nothing.
-use Rattle.plans.specs.Verdicts.{verdictNumber}
-use Rattle.slots.specs.Handles.{wordOf}
+use Rattle.verdicts.specs.Verdicts.{verdictNumber}
+use Rattle.records.specs.Handles.{wordOf}
 use Rattle.memory.specs.Decode.{decode}
-use Rattle.plans.proofs.Verdicts.{refused-twice, accepted-twice}
-use Rattle.plans.proofs.Bytes.{under-same}
+use Rattle.verdicts.proofs.Verdicts.{refused-twice, accepted-twice}
+use Rattle.verdicts.proofs.Bytes.{under-same}
 use Rattle.plans.proofs.Replaced.{text-place-live}
 use borrow.Author.Needs.{needs}
 use Rattle.plans.proofs.setting.check_set_text.Statement.{statement}

@@ -1,11 +1,11 @@
 -- `plans::setting::plan_set_text` meets its contract.
 -- Assumes nothing.
-use Rattle.slots.specs.Handles.{wordOf}
+use Rattle.records.specs.Handles.{wordOf}
 use Rattle.memory.specs.Decode.{decode}
 use Rattle.model.specs.Calls.{underRoot}
 use Rattle.plans.proofs.Replaced.{set-text-live}
-use Rattle.plans.proofs.Verdicts.{refused-before, accepted-before}
-use Rattle.plans.proofs.Refusing.{set-text-number}
+use Rattle.verdicts.proofs.Verdicts.{refused-before, accepted-before}
+use Rattle.verdicts.proofs.Refusing.{set-text-number}
 use borrow.Author.Needs.{needs}
 use Rattle.plans.proofs.setting.plan_set_text.Statement.{statement}
 use Rattle.plans.proofs.setting.plan_set_text.Tie as tie

@@ -1,6 +1,6 @@
 -- `plans::setting::replacement_fits` meets its contract.
 -- Assumes nothing.
-use Rattle.plans.proofs.Texts.{texts-asked}
+use Rattle.room.proofs.Texts.{texts-asked}
 use Rattle.plans.proofs.Replaced.{replaced-none, replaced-some}
 use borrow.Author.Needs.{needs}
 use Rattle.plans.proofs.setting.replacement_fits.Statement.{statement}

@@ -15,9 +15,6 @@ text-limits-requires c κs = search needs
 text-counts-requires : tie.Need-text-counts-requires
 text-counts-requires c κs = search needs
 
-cast-text-place : tie.Need-cast-text-place
-cast-text-place c = search needs
-
 text-place-requires : tie.Need-text-place-requires
 text-place-requires c κs =
     let s = c .before .before .before .before in
@@ -29,4 +26,4 @@ returns c =
     place-told (s .args .d) (s .args .mem .now) (s .pre) (c .before .before .text-limits .result) (c .before .text-counts .result) _ (c .before .before .text-limits .ensures) (c .before .text-counts .ensures) (c .before .before .before .texts-words .ensures) _ _ (c .text-place .ensures)
 
 pub text-length-spec : {M : Type 1} → statement M
-text-length-spec = tie.close (tie.spec texts-words-requires text-limits-requires text-counts-requires cast-text-place text-place-requires returns)
+text-length-spec = tie.close (tie.spec texts-words-requires text-limits-requires text-counts-requires text-place-requires returns)

@@ -1,6 +1,6 @@
 -- `plans::setting::under_root` meets its contract.
 -- Assumes nothing.
-use Rattle.slots.specs.Handles.{wordOf}
+use Rattle.records.specs.Handles.{wordOf}
 use Rattle.memory.specs.Decode.{decode}
 use Rattle.plans.proofs.Replaced.{no-parent, parent-root}
 use borrow.Author.Needs.{needs}

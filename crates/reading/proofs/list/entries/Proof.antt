@@ -1,6 +1,6 @@
 -- `reading::list::entries` meets its contract.
 -- Assumes nothing.
-use Rattle.memory.specs.Layout.{whichOf}
+use Rattle.layout.specs.Layout.{whichOf}
 use Rattle.memory.specs.Decode.{blockOf}
 use Rattle.reading.proofs.Listed.{entries-room, entries-inside, entries-outside}
 use borrow.Author.Needs.{needs}

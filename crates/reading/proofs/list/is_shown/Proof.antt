@@ -1,6 +1,6 @@
 -- `reading::list::is_shown` meets its contract.
 -- Assumes nothing.
-use Rattle.memory.specs.Layout.{whichOf}
+use Rattle.layout.specs.Layout.{whichOf}
 use Rattle.memory.specs.Decode.{blockOf}
 use Rattle.reading.proofs.Listed.{shown-yes, shown-no}
 use borrow.Author.Needs.{needs}

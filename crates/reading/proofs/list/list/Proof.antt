@@ -1,9 +1,9 @@
 -- `reading::list::list` meets its contract.
 -- Assumes nothing.
 use mathlib.Core.Path.{sym, _∙_}
-use Rattle.slots.specs.Handles.{wordOf}
-use Rattle.memory.specs.Layout.{whichOf}
-use Rattle.reading.proofs.Found.{refused-reads, decoded-reads}
+use Rattle.records.specs.Handles.{wordOf}
+use Rattle.layout.specs.Layout.{whichOf}
+use Rattle.reading.proofs.Tested.{refused-reads, decoded-reads}
 use Rattle.reading.proofs.Listed.{list-shown}
 use borrow.Author.Needs.{needs}
 use Rattle.reading.proofs.list.list.Statement.{statement}

@@ -1,7 +1,7 @@
 -- `reading::name::name` meets its contract.
 -- Assumes nothing.
 use mathlib.Core.Path.{sym, _∙_}
-use Rattle.reading.proofs.Found.{refused-reads, decoded-reads}
+use Rattle.reading.proofs.Tested.{refused-reads, decoded-reads}
 use Rattle.reading.proofs.Texts.{name-there, name-none}
 use borrow.Author.Needs.{needs}
 use Rattle.reading.proofs.name.name.Statement.{statement}

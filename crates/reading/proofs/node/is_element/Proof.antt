@@ -2,7 +2,7 @@
 -- Assumes nothing.
 use mathlib.Core.Path.{sym, ap, _∙_}
 use Rattle.model.specs.Calls.{truth}
-use Rattle.reading.proofs.Found.{refused-reads, decoded-reads}
+use Rattle.reading.proofs.Tested.{refused-reads, decoded-reads}
 use borrow.Author.Needs.{needs}
 use Rattle.reading.proofs.node.is_element.Statement.{statement}
 use Rattle.reading.proofs.node.is_element.Tie as tie

@@ -4,8 +4,8 @@ use mathlib.Core.Path.{sym, _∙_}
 use Rattle.model.specs.Kinds.{children}
 use Rattle.model.specs.Doc.{rootHandle}
 use Rattle.memory.specs.Decode.{blockOf}
-use Rattle.reading.proofs.Found.{refused-reads, decoded-reads}
-use Rattle.reading.proofs.Listed.{shown-inside}
+use Rattle.reading.proofs.Tested.{refused-reads, decoded-reads}
+use Rattle.showing.proofs.Bounded.{shown-inside}
 use Rattle.reading.proofs.Elements.{root-shown}
 use borrow.Author.Needs.{needs}
 use Rattle.reading.proofs.node.root_element.Statement.{statement}

@@ -7,7 +7,7 @@ use lib.ListN.{length}
 use borrow.Author.Needs.{needs}
 use Rattle.words.specs.Parts.{put}
 use Rattle.memory.specs.Decode.{decode}
-use Rattle.memory.proofs.Limits.{sizes}
+use Rattle.layout.proofs.Sizes.{sizes}
 use Rattle.reading.proofs.Live.{liveBelow, below-short, below-start, below-turn, below-all}
 use Rattle.reading.proofs.nodes.write_nodes.Statement.{statement}
 use Rattle.reading.proofs.nodes.write_nodes.Tie as tie

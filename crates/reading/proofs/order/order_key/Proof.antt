@@ -2,7 +2,7 @@
 -- Assumes nothing.
 use mathlib.Core.Path.{sym, _∙_}
 use native.Mathlib.Omega.{arith}
-use Rattle.reading.proofs.Found.{refused-reads, decoded-reads}
+use Rattle.reading.proofs.Tested.{refused-reads, decoded-reads}
 use Rattle.reading.proofs.Keyed.{slot-inside, key-shown, key-stale}
 use borrow.Author.Needs.{needs}
 use Rattle.reading.proofs.order.order_key.Statement.{statement}

@@ -1,7 +1,7 @@
 -- `reading::order::root` meets its contract.
 -- Assumes nothing.
 use mathlib.Core.Path.{refl}
-use Rattle.reading.proofs.Found.{refused-reads, decoded-reads}
+use Rattle.reading.proofs.Tested.{refused-reads, decoded-reads}
 use borrow.Author.Needs.{needs}
 use Rattle.reading.proofs.order.root.Statement.{statement}
 use Rattle.reading.proofs.order.root.Tie as tie

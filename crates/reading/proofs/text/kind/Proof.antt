@@ -2,7 +2,7 @@
 -- Assumes nothing.
 use mathlib.Core.Path.{sym, _∙_}
 use native.Mathlib.Omega.{arith}
-use Rattle.reading.proofs.Found.{refused-reads, decoded-reads}
+use Rattle.reading.proofs.Tested.{refused-reads, decoded-reads}
 use Rattle.reading.proofs.Texts.{kind-shown, kind-stale}
 use borrow.Author.Needs.{needs}
 use Rattle.reading.proofs.text.kind.Statement.{statement}

@@ -1,9 +1,9 @@
 -- `removing::attribute::remove_checked` meets its contract.
 -- Assumes nothing.
 use mathlib.Core.Path.{ap}
-use Rattle.slots.specs.Handles.{wordOf}
+use Rattle.records.specs.Handles.{wordOf}
 use Rattle.model.specs.Calls.{remove-attribute}
-use Rattle.plans.specs.Verdicts.{verdictNumber}
+use Rattle.verdicts.specs.Verdicts.{verdictNumber}
 use Rattle.editing.proofs.Editing.{refused-answers, admits}
 use borrow.Author.Needs.{needs}
 use Rattle.removing.proofs.attribute.remove_checked.Statement.{statement}

@@ -1,6 +1,6 @@
 -- `removing::attribute::remove_found` meets its contract.
 -- Assumes nothing.
-use Rattle.slots.specs.Handles.{wordOf}
+use Rattle.records.specs.Handles.{wordOf}
 use Rattle.names.specs.Table.{name}
 use Rattle.model.specs.Calls.{findAttribute}
 use Rattle.memory.specs.Decode.{decode}

@@ -1,6 +1,6 @@
 -- `removing::remove::remove` meets its contract.
 -- Assumes nothing.
-use Rattle.slots.specs.Handles.{wordOf}
+use Rattle.records.specs.Handles.{wordOf}
 use Rattle.model.specs.Calls.{remove}
 use Rattle.editing.proofs.Editing.{opened, undamaged, lent-scratch, zero-scratch, cleared-again, not-admitted, edits}
 use borrow.Author.Needs.{needs}

@@ -1,6 +1,6 @@
 -- `removing::remove::remove_checked` meets its contract.
 -- Assumes nothing.
-use Rattle.slots.specs.Handles.{wordOf}
+use Rattle.records.specs.Handles.{wordOf}
 use Rattle.model.specs.Calls.{remove}
 use Rattle.editing.proofs.Editing.{refused-answers}
 use Rattle.removing.proofs.Removable.{removable, removes}

@@ -2,8 +2,8 @@
 -- Assumes nothing.
 use native.Mathlib.Omega.{arith}
 use lib.ListN.{length}
-use Rattle.memory.specs.Layout.{whichOf}
-use Rattle.memory.proofs.Limits.{sizes, memory-limits}
+use Rattle.layout.specs.Layout.{whichOf}
+use Rattle.layout.proofs.Sizes.{sizes, memory-limits}
 use Rattle.structure.proofs.Claimed.{buffers-memory, buffers-scratch, marks-inside, claim-read}
 use borrow.Author.Needs.{needs}
 use Rattle.structure.proofs.arenas.claim.Statement.{statement}

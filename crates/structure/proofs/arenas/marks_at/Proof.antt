@@ -1,8 +1,8 @@
 -- `structure::arenas::marks_at` meets its contract.
 -- Assumes nothing.
 use native.Mathlib.Omega.{arith}
-use Rattle.memory.specs.Layout.{limitsOf}
-use Rattle.memory.proofs.Limits.{limits-fit}
+use Rattle.layout.specs.Layout.{limitsOf}
+use Rattle.layout.proofs.Sizes.{limits-fit}
 use Rattle.structure.proofs.Claimed.{marks-first, marks-second, marks-third}
 use borrow.Author.Needs.{needs}
 use Rattle.structure.proofs.arenas.marks_at.Statement.{statement}

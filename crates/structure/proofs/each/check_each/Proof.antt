@@ -1,7 +1,7 @@
 -- `structure::each::check_each` meets its contract.
 -- Assumes nothing.
 use lib.ListN.{length}
-use Rattle.memory.proofs.Limits.{memory-limits}
+use Rattle.layout.proofs.Sizes.{memory-limits}
 use Rattle.structure.proofs.Claimed.{buffers-memory, buffers-scratch, buffers-kept}
 use borrow.Author.Needs.{needs}
 use Rattle.structure.proofs.each.check_each.Statement.{statement}

@@ -6,8 +6,8 @@ use native.Mathlib.Omega.{arith}
 use lib.ListN.{length}
 use lib.Dec.{eqb}
 use Rattle.words.specs.Lists.{allBelow}
-use Rattle.memory.specs.Layout.{whichOf}
-use Rattle.memory.proofs.Limits.{sizes, memory-limits}
+use Rattle.layout.specs.Layout.{whichOf}
+use Rattle.layout.proofs.Sizes.{sizes, memory-limits}
 use Rattle.structure.specs.Tests.{fitsAt}
 use Rattle.structure.proofs.CountsAndFields.{capacity-next, capacities-all}
 use Rattle.structure.proofs.fields.capacities_fit.Statement.{statement}

@@ -2,7 +2,7 @@
 -- Assumes nothing.
 use native.Mathlib.Omega.{arith}
 use lib.ListN.{length}
-use Rattle.memory.proofs.Limits.{sizes}
+use Rattle.layout.proofs.Sizes.{sizes}
 use Rattle.memory.proofs.Reading.{slots-lent}
 use borrow.Author.Needs.{needs}
 use Rattle.structure.proofs.fields.slots_fit.Statement.{statement}

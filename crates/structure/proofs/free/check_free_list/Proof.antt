@@ -3,7 +3,7 @@
 use mathlib.Core.Path.{_∙_}
 use native.Mathlib.Omega.{arith}
 use lib.ListN.{length}
-use Rattle.memory.proofs.Limits.{sizes}
+use Rattle.layout.proofs.Sizes.{sizes}
 use Rattle.memory.proofs.Reading.{slots-lent}
 use Rattle.structure.proofs.Lists.{cleared}
 use Rattle.structure.proofs.FreeStacks.{free-list}

@@ -2,7 +2,7 @@
 -- Assumes nothing.
 use native.Mathlib.Omega.{arith}
 use lib.ListN.{length}
-use Rattle.memory.proofs.Limits.{memory-limits}
+use Rattle.layout.proofs.Sizes.{memory-limits}
 use Rattle.structure.proofs.Claimed.{buffers-memory, buffers-scratch, text-marks-inside}
 use Rattle.structure.proofs.Turns.{lent-size, fields-lent}
 use borrow.Author.Needs.{needs}

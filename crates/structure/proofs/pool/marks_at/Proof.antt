@@ -1,8 +1,8 @@
 -- `structure::pool::marks_at` meets its contract.
 -- Assumes nothing.
 use native.Mathlib.Omega.{arith}
-use Rattle.memory.specs.Layout.{limitsOf}
-use Rattle.memory.proofs.Limits.{limits-fit}
+use Rattle.layout.specs.Layout.{limitsOf}
+use Rattle.layout.proofs.Sizes.{limits-fit}
 use Rattle.structure.proofs.Claimed.{text-marks-at}
 use Rattle.structure.proofs.pool.marks_at.Statement.{statement}
 use Rattle.structure.proofs.pool.marks_at.Tie as tie

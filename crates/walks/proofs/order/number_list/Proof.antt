@@ -6,22 +6,19 @@ use native.Mathlib.Omega.{arith}
 use lib.ListN.{length}
 use borrow.Author.Needs.{needs}
 use Rattle.words.specs.Parts.{part}
-use Rattle.memory.specs.Layout.{whichOf, memoryOk}
-use Rattle.memory.proofs.Limits.{sizes, memory-limits}
+use Rattle.layout.specs.Layout.{whichOf, memoryOk}
+use Rattle.layout.proofs.Sizes.{sizes, memory-limits}
 use Rattle.walks.specs.Order.{putKeys}
 use Rattle.walks.proofs.Listing.{block-read, keys-first, keys-sized, list-numbered, entry-listed, keys-next}
 use Rattle.walks.proofs.order.number_list.Statement.{statement}
 use Rattle.walks.proofs.order.number_list.Tie as tie
 
 abbrev Inv-loop : tie.InvT-loop
-Inv-loop d mem₀ key number first start len k₀ mem k =
+Inv-loop d mem₀ key first start len k₀ mem k =
     (k ≤ len) × (length mem ≡ length mem₀) × (mem ≡ putKeys d mem₀ key (part (first + start) k mem₀))
 
 abbrev μ-loop : tie.MeasureT-loop
-μ-loop d mem₀ key number first start len k₀ mem k = len - k
-
-cast-live-block : tie.Need-cast-live-block Inv-loop μ-loop
-cast-live-block c = search needs
+μ-loop d mem₀ key first start len k₀ mem k = len - k
 
 live-block-requires : tie.Need-live-block-requires Inv-loop μ-loop
 live-block-requires c κs =
@@ -163,4 +160,4 @@ returns c =
 
 pub number-list-spec : {M : Type 1} → statement M
 number-list-spec =
-    tie.close (tie.spec Inv-loop μ-loop cast-live-block live-block-requires arena-at-requires cast-start cast-len loop-holds add-word add-word-2 mul-word slice-read-word add-put-key put-key-requires add-k loop-less loop-again add-result same-length returns)
+    tie.close (tie.spec Inv-loop μ-loop live-block-requires arena-at-requires cast-start cast-len loop-holds add-word add-word-2 mul-word slice-read-word add-put-key put-key-requires add-k loop-less loop-again add-result same-length returns)

@@ -3,8 +3,8 @@
 use mathlib.Core.Path.{refl, sym, ap, _∙_}
 use native.Mathlib.Omega.{arith}
 use lib.ListN.{length, length-set}
-use Rattle.memory.proofs.Limits.{limits-fit, memory-limits}
-use Rattle.memory.specs.Layout.{limitsOf}
+use Rattle.layout.proofs.Sizes.{limits-fit, memory-limits}
+use Rattle.layout.specs.Layout.{limitsOf}
 use Rattle.model.specs.Kinds.{children}
 use Rattle.walks.proofs.Listing.{keys-sized}
 use Rattle.walks.proofs.Renewing.{Renewing, room-set, height-short, renewing-first, word-listed, turn-left, key-short, children-listed, stack-room, renewing-next, renewing-last}

@@ -1,0 +1,4 @@
+pub mod Handles
+pub mod Records
+pub mod Fields
+pub mod Ranges

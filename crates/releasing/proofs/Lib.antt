@@ -1,0 +1,3 @@
+mod Laid
+mod Gaps
+pub mod Released

@@ -1,0 +1,2 @@
+// Full, as counted: slots, entries, texts and names.
+pub mod full;

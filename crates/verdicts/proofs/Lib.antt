@@ -1,0 +1,3 @@
+pub mod Verdicts
+pub mod Bytes
+pub mod Refusing
