@@ -1,5 +1,7 @@
 // The block editor: blocks of ids in one arena, each with room to grow. It sees no node.
 // An arena is one slice of words: an id for each of limit entries, then for each the capacity recorded for a block that starts there, 0 for none.
+#![tactic(auto)]
+
 pub mod compact;
 pub mod marks;
 

@@ -1,4 +1,6 @@
 // Characters: UTF-8, XML's characters, and what the productions over them answer. In specs/ also their classes.
+#![tactic(auto)]
+
 pub mod utf8; // utf8.rt: one step of decoding
 pub mod xml; // xml.rt: Char
 

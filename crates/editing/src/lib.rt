@@ -1,3 +1,5 @@
 // The frame of the editing calls: test 4 and the structure check, and what every editing call answers with.
+#![tactic(auto)]
+
 pub mod admission;
 pub mod answers;

@@ -1,4 +1,6 @@
 // The public calls for programs in C and Rust: numbers and slices alone, and a document's record as words that are lent.
+#![tactic(auto)]
+
 pub mod append;
 pub mod change;
 pub mod list;

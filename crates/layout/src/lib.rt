@@ -1,4 +1,6 @@
 // The record of a document, where its regions lie in the lent buffer, and test 4.
+#![tactic(auto)]
+
 ghost use Rattle.std.specs.Prelude.{◌≡◌, true, ◌&&◌};
 ghost use Rattle.model.specs.Doc.{limits_ok};
 ghost use Rattle.layout.specs.Layout.{which_of, limits_of, arena_at, texts_at, names_at, document_words, scratch_words, memory_ok, buffers_ok};

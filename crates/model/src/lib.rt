@@ -1,4 +1,6 @@
 // What calls refuse with. The document, its calls as functions, the structure rules and the plain tree are definitions (specs/), with the bench examples over them.
+#![tactic(auto)]
+
 ghost use Rattle.std.specs.Prelude.{◌≡◌};
 ghost use Rattle.model.specs.Refusals.{number_of};
 

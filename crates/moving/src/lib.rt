@@ -1,2 +1,4 @@
 // The public calls that put a node under another parent.
+#![tactic(auto)]
+
 pub mod moves;

@@ -1,4 +1,6 @@
 // The name table: (namespace, local) pairs, each once. Its words are two ends a name, then the bytes, one a word.
+#![tactic(auto)]
+
 ghost use Rattle.std.specs.Prelude.{◌≡◌, ◌&&◌, ◌+◌, ◌≤◌, ◌<◌, length};
 ghost use Rattle.words.specs.Ends.{piece_there};
 ghost use Rattle.names.specs.Words.{bytes_at, table_ok, part_shown, name_there};

@@ -1,4 +1,6 @@
 // The reading calls: they test 4 only, change nothing, and cost what they show.
+#![tactic(auto)]
+
 pub mod answers;
 pub mod list;
 pub mod name;

@@ -1,4 +1,6 @@
 // Handles and node records: the twelve words of a slot by name, and the node that they are. No memory is known here.
+#![tactic(auto)]
+
 pub mod decode;
 pub mod encode;
 pub mod handle;

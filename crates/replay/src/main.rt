@@ -1,4 +1,6 @@
 // Reads call lists from standard input and writes their answers: docs/CALLS.md.
+#![tactic(auto)]
+
 mod answer;
 mod buffers;
 mod edit;

@@ -1,2 +1,4 @@
 // Full, as counted: slots, entries, texts and names.
+#![tactic(auto)]
+
 pub mod full;

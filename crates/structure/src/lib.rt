@@ -1,4 +1,6 @@
 // The structure check: Damaged exactly when a structure rule is broken. The memory is only read.
+#![tactic(auto)]
+
 pub mod arenas;
 pub mod check;
 pub mod each;

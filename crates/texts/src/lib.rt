@@ -1,4 +1,6 @@
 // The text pool: where the text of each slot ends, the stack of released slots, then the bytes, one a word, joined without gaps in slot order.
+#![tactic(auto)]
+
 ghost use Rattle.std.specs.Prelude.{◌≡◌, ◌+◌, ◌≤◌, length};
 ghost use Rattle.texts.specs.Words.{bytes_at, place_shown, text_shown, counts_fit};
 
