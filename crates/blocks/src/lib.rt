@@ -13,7 +13,7 @@ ghost use Rattle.blocks.specs.Answer.{insert_answer, insert_words, has_room_afte
 ghost use Rattle.blocks.specs.Held.{Held};
 
 // Where the block is after an insertion, the arena's length then, and the index at which the id stands; or that the arena has no room.
-#[derive(Drop)]
+#[derive(Clone, Copy)]
 pub enum Inserted {
     At {
         start: usize,

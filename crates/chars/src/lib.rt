@@ -5,7 +5,7 @@ pub mod utf8; // utf8.rt: one step of decoding
 pub mod xml; // xml.rt: Char
 
 // What a check answers.
-#[derive(Drop)]
+#[derive(Clone, Copy)]
 pub enum Check {
     Passed,
     NotUtf8,
@@ -14,14 +14,14 @@ pub enum Check {
 }
 
 // What stands at an index of a text: a code point with the number of further bytes that spell it, or no well-formed sequence.
-#[derive(Drop)]
+#[derive(Clone, Copy)]
 pub enum Step {
     Point { code: u32, more: usize },
     Bad,
 }
 
 // The rule that a text is read by.
-#[derive(Drop)]
+#[derive(Clone, Copy)]
 pub enum Rule {
     Utf8,
     Text,
@@ -34,7 +34,7 @@ pub enum Rule {
 
 // What a rule keeps of the code points read so far: none was read, the last has no part in what follows, the last is the first half
 // of what a comment or PI data may not have, or the rule is broken.
-#[derive(Drop)]
+#[derive(Clone, Copy)]
 pub enum State {
     Start,
     Inside,
@@ -43,7 +43,7 @@ pub enum State {
 }
 
 // What reading a text by a rule finds.
-#[derive(Drop)]
+#[derive(Clone, Copy)]
 pub enum Verdict {
     Holds,
     Fails,

@@ -13,7 +13,7 @@ use walks::order::slot_of;
 use words::NodeSlot;
 
 // How many entries the copies in each arena take.
-#[derive(Drop)]
+#[derive(Clone, Copy)]
 pub struct Lengths {
     pub children: usize,
     pub attributes: usize,

@@ -10,14 +10,14 @@ use steps::position::{Position, Walked, start};
 use steps::step::step;
 
 // A position to go on from.
-#[derive(Drop)]
+#[derive(Clone, Copy)]
 pub enum WalkAnswer {
     From(Position),
     Refused(Refusal),
 }
 
 // A position at the next node, or that there is none.
-#[derive(Drop)]
+#[derive(Clone, Copy)]
 pub enum NextAnswer {
     At(Position),
     End,

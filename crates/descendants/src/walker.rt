@@ -7,7 +7,7 @@ use layout::Document;
 use steps::position::Position;
 
 // `ids` is the lent buffer whole: the ids of a list and the words that say where the next list lies stand in it side by side.
-#[derive(Drop)]
+#[derive(Clone, Copy)]
 pub struct Walker<'a> {
     pub document: Document,
     pub ids: &'a [u64],

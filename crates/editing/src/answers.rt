@@ -4,28 +4,28 @@ use layout::Document;
 use model::Refusal;
 
 // Done.
-#[derive(Drop)]
+#[derive(Clone, Copy)]
 pub enum DoneAnswer {
     Done(Document),
     Refused(Refusal),
 }
 
 // A node's handle, with the record.
-#[derive(Drop)]
+#[derive(Clone, Copy)]
 pub enum MadeAnswer {
     Made(NewNode),
     Refused(Refusal),
 }
 
 // Whether it was there.
-#[derive(Drop)]
+#[derive(Clone, Copy)]
 pub enum FoundAnswer {
     Found(Document, bool),
     Refused(Refusal),
 }
 
 // The order is current: `order_words` shows it.
-#[derive(Drop)]
+#[derive(Clone, Copy)]
 pub enum OrderAnswer {
     Order(Document),
     Refused(Refusal),

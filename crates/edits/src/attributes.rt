@@ -22,7 +22,7 @@ use records::{Chars, NodeData, NodeId};
 use words::NameId;
 
 // The record after an attribute's name and value were stored, the name's number, and what the node's field holds.
-#[derive(Drop)]
+#[derive(Clone, Copy)]
 struct StoredAttribute {
     document: Document,
     name: NameId,

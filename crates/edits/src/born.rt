@@ -13,7 +13,7 @@ use records::{Node, NodeData, NodeId, Parent, Range};
 use words::NodeSlot;
 
 // The record after a node was made, and the node's handle.
-#[derive(Drop)]
+#[derive(Clone, Copy)]
 pub struct NewNode {
     pub document: Document,
     pub id: NodeId,

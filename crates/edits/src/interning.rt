@@ -12,7 +12,7 @@ use memory::parts::write_name;
 use words::NameId;
 
 // The record after a name was interned, and the name's number.
-#[derive(Drop)]
+#[derive(Clone, Copy)]
 pub struct InternedName {
     pub document: Document,
     pub name: NameId,

@@ -15,14 +15,14 @@ use records::Chars;
 use texts::storing::TextField;
 
 // The record after a text was stored, and what the node's field holds.
-#[derive(Drop)]
+#[derive(Clone, Copy)]
 pub struct StoredText {
     pub document: Document,
     pub field: Chars,
 }
 
 // The same of two texts of one call.
-#[derive(Drop)]
+#[derive(Clone, Copy)]
 pub struct StoredTexts {
     pub document: Document,
     pub first: Chars,

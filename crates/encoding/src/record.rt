@@ -7,7 +7,7 @@ ghost use Rattle.encoding.specs.Records.{limits_in, counts_in, document_of, trut
 use layout::{Counts, Document, Limits};
 
 // A record that is lent, or that too few words are.
-#[derive(Drop)]
+#[derive(Clone, Copy)]
 pub enum Lent {
     Record(Document),
     Short,

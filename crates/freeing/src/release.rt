@@ -18,7 +18,7 @@ use records::{Chars, Loaded, NodeData};
 use words::{NodeSlot, TextSlot};
 
 // The text fields of a node: one that it does not have is empty.
-#[derive(Drop)]
+#[derive(Clone, Copy)]
 pub struct HeldTexts {
     pub first: Chars,
     pub second: Chars,

@@ -10,7 +10,7 @@ use slots::region::SLOT_WORDS;
 pub mod record;
 
 // How much a document may hold; chosen at the start.
-#[derive(Drop)]
+#[derive(Clone, Copy)]
 pub struct Limits {
     pub nodes: usize,
     pub children: usize,
@@ -23,7 +23,7 @@ pub struct Limits {
 }
 
 // How much it holds: slots made and free, the arenas' lengths, text slots made and released, names, and the bytes of texts and names.
-#[derive(Drop)]
+#[derive(Clone, Copy)]
 pub struct Counts {
     pub slots: usize,
     pub free: usize,
@@ -38,7 +38,7 @@ pub struct Counts {
 }
 
 // The record that goes with the memory, passed by value; current says whether the order is.
-#[derive(Drop)]
+#[derive(Clone, Copy)]
 pub struct Document {
     pub limits: Limits,
     pub counts: Counts,
@@ -46,7 +46,7 @@ pub struct Document {
 }
 
 // The three arenas, as the source names them.
-#[derive(Drop)]
+#[derive(Clone, Copy)]
 pub enum Arena {
     Children,
     Attributes,

@@ -6,21 +6,21 @@ const SPACE: u8 = 32;
 const COLON: u8 = 58;
 
 // A number below 2^64.
-#[derive(Drop)]
+#[derive(Clone, Copy)]
 pub enum Number {
     Of(u64),
     NoNumber,
 }
 
 // The two halves of a handle.
-#[derive(Drop)]
+#[derive(Clone, Copy)]
 pub enum Handle {
     Of { index: u32, generation: u32 },
     NoHandle,
 }
 
 // Where the bytes end that were written.
-#[derive(Drop)]
+#[derive(Clone, Copy)]
 pub enum Bytes {
     Until(usize),
     NoBytes,

@@ -5,7 +5,7 @@ ghost use Rattle.std.specs.Prelude.{◌≡◌};
 ghost use Rattle.model.specs.Refusals.{number_of};
 
 // The refusals of document 01, in its order: those from the input, then those from the state.
-#[derive(Drop)]
+#[derive(Clone, Copy)]
 pub enum Refusal {
     NotUtf8,
     InvalidName,

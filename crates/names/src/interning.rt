@@ -9,7 +9,7 @@ use crate::{NameCounts, NameLimits};
 use words::NameId;
 
 // The number of an interned name, and the counts after.
-#[derive(Drop)]
+#[derive(Clone, Copy)]
 pub struct Interned {
     pub number: NameId,
     pub counts: NameCounts,

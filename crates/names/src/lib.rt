@@ -11,14 +11,14 @@ use words::ends::piece_there;
 pub mod interning;
 
 // How many names, and how many bytes of names, there may be.
-#[derive(Drop)]
+#[derive(Clone, Copy)]
 pub struct NameLimits {
     pub names: usize,
     pub bytes: usize,
 }
 
 // How many there are.
-#[derive(Drop)]
+#[derive(Clone, Copy)]
 pub struct NameCounts {
     pub names: usize,
     pub bytes: usize,

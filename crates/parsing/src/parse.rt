@@ -7,7 +7,7 @@ use lines::read::{
 use records::NodeId;
 
 // Calls and other lines of one word.
-#[derive(Drop)]
+#[derive(Clone, Copy)]
 pub enum Alone {
     Root,
     RootElement,
@@ -19,7 +19,7 @@ pub enum Alone {
 }
 
 // Those of a node.
-#[derive(Drop)]
+#[derive(Clone, Copy)]
 pub enum OfNode {
     Kind,
     Parent,
@@ -33,7 +33,7 @@ pub enum OfNode {
 }
 
 // Those of a node and a text.
-#[derive(Drop)]
+#[derive(Clone, Copy)]
 pub enum WithText {
     AppendText,
     AppendComment,
@@ -41,7 +41,7 @@ pub enum WithText {
 }
 
 // Those of a node and two texts.
-#[derive(Drop)]
+#[derive(Clone, Copy)]
 pub enum WithTexts {
     AppendElement,
     RemoveAttribute,
@@ -50,7 +50,7 @@ pub enum WithTexts {
 }
 
 // A line. Its texts lie one behind the other in the buffer for them; a number says where each ends.
-#[derive(Drop)]
+#[derive(Clone, Copy)]
 pub enum Line {
     NoCall,
     Alone(Alone),
@@ -225,7 +225,7 @@ fn five_words(line: &[u8], texts: &mut [u8]) -> Line {
 }
 
 // A number for each limit, and whether all are numbers.
-#[derive(Drop)]
+#[derive(Clone, Copy)]
 struct Numbers {
     all: bool,
     n: [u64; 8],

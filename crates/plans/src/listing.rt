@@ -24,7 +24,7 @@ use verdicts::arguments::{check_attribute, three_not_utf8};
 use verdicts::verdict::{Verdict, first, is_accepted};
 
 // Found is Nowhere where a check refuses before the search.
-#[derive(Drop)]
+#[derive(Clone, Copy)]
 pub struct Planned {
     pub verdict: Verdict,
     pub found: Listed,

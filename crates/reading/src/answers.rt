@@ -4,14 +4,14 @@ use records::{NodeData, NodeId, Range};
 use words::NameId;
 
 // Whether it is so.
-#[derive(Drop)]
+#[derive(Clone, Copy)]
 pub enum TruthAnswer {
     Is(bool),
     Refused(Refusal),
 }
 
 // A node, or that there is none.
-#[derive(Drop)]
+#[derive(Clone, Copy)]
 pub enum NodeAnswer {
     Node(NodeId),
     Nothing,
@@ -19,21 +19,21 @@ pub enum NodeAnswer {
 }
 
 // The root node's handle.
-#[derive(Drop)]
+#[derive(Clone, Copy)]
 pub enum RootAnswer {
     Root(NodeId),
     Refused(Refusal),
 }
 
 // A list as its block in the arena of the call; `entries` shows the handles in it.
-#[derive(Drop)]
+#[derive(Clone, Copy)]
 pub enum ListAnswer {
     Block(Range),
     Refused(Refusal),
 }
 
 // A position in document order, or none.
-#[derive(Drop)]
+#[derive(Clone, Copy)]
 pub enum KeyAnswer {
     At(u32),
     Nothing,
@@ -41,14 +41,14 @@ pub enum KeyAnswer {
 }
 
 // How many handles `nodes` wrote.
-#[derive(Drop)]
+#[derive(Clone, Copy)]
 pub enum NodesAnswer {
     Count(usize),
     Refused(Refusal),
 }
 
 // What a node is; `text_bytes` shows the bytes of a text in it.
-#[derive(Drop)]
+#[derive(Clone, Copy)]
 pub enum KindAnswer {
     Kind(NodeData),
     Nothing,
@@ -56,7 +56,7 @@ pub enum KindAnswer {
 }
 
 // Whether the number has a name; `namespace_bytes` and `local_bytes` show its parts.
-#[derive(Drop)]
+#[derive(Clone, Copy)]
 pub enum NameAnswer {
     Name(NameId),
     Nothing,

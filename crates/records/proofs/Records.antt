@@ -93,8 +93,8 @@ word-parent w g = go (ℕ_discrete w 0)
     go (yes e) = rw (eq-eqb w 0 e) (λ b. (sym e, omega arith))
     go (no ne) = rw (ne_eqb w 0 ne) (λ b. (omega arith, refl))
 
-no_span : (s : Span) → SpanWithin false s → no_span ≡ s
-no_span s h =
+no-span : (s : Span) → SpanWithin false s → no_span ≡ s
+no-span s h =
     let a : 0 ≡ s.start = omega arith in
     let b : 0 ≡ s.len = omega arith in
     λ i. record { start = a i; len = b i }
@@ -131,13 +131,13 @@ module _ (name first second parent generation : ℕ) (c a s : Span) where
   data-words : (k : ℕ) → k ≤ 6 → Shown k
   unfolding data_of
   data-words = by_kind Shown
-      (λ w. record { kind = refl; name = omega (arith, w.name); first = omega (arith, w.first); second = omega (arith, w.second); attributes = no_span a w.attributes; namespaces = no_span s w.namespaces })
+      (λ w. record { kind = refl; name = omega (arith, w.name); first = omega (arith, w.first); second = omega (arith, w.second); attributes = no-span a w.attributes; namespaces = no-span s w.namespaces })
       (λ w. record { kind = refl; name = refl; first = omega (arith, w.first); second = omega (arith, w.second); attributes = refl; namespaces = refl })
-      (λ w. record { kind = refl; name = refl; first = word-chars first; second = omega (arith, w.second); attributes = no_span a w.attributes; namespaces = no_span s w.namespaces })
-      (λ w. record { kind = refl; name = omega (arith, w.name); first = word-chars first; second = omega (arith, w.second); attributes = no_span a w.attributes; namespaces = no_span s w.namespaces })
-      (λ w. record { kind = refl; name = omega (arith, w.name); first = word-chars first; second = omega (arith, w.second); attributes = no_span a w.attributes; namespaces = no_span s w.namespaces })
-      (λ w. record { kind = refl; name = omega (arith, w.name); first = word-chars first; second = word-chars second; attributes = no_span a w.attributes; namespaces = no_span s w.namespaces })
-      (λ w. record { kind = refl; name = omega (arith, w.name); first = word-chars first; second = word-chars second; attributes = no_span a w.attributes; namespaces = no_span s w.namespaces })
+      (λ w. record { kind = refl; name = refl; first = word-chars first; second = omega (arith, w.second); attributes = no-span a w.attributes; namespaces = no-span s w.namespaces })
+      (λ w. record { kind = refl; name = omega (arith, w.name); first = word-chars first; second = omega (arith, w.second); attributes = no-span a w.attributes; namespaces = no-span s w.namespaces })
+      (λ w. record { kind = refl; name = omega (arith, w.name); first = word-chars first; second = omega (arith, w.second); attributes = no-span a w.attributes; namespaces = no-span s w.namespaces })
+      (λ w. record { kind = refl; name = omega (arith, w.name); first = word-chars first; second = word-chars second; attributes = no-span a w.attributes; namespaces = no-span s w.namespaces })
+      (λ w. record { kind = refl; name = omega (arith, w.name); first = word-chars first; second = word-chars second; attributes = no-span a w.attributes; namespaces = no-span s w.namespaces })
 
 words_back : (r : NodeRecord) → Within r → record_of (found_node r) ≡ r
 unfolding record_of

@@ -10,33 +10,33 @@ pub mod patch;
 use words::{NameId, TextSlot};
 
 // A handle: a slot and the generation that it was made with.
-#[derive(Drop)]
+#[derive(Clone, Copy)]
 pub struct NodeId {
     pub index: u32,
     pub generation: u32,
 }
 
 // A block of an arena.
-#[derive(Drop)]
+#[derive(Clone, Copy)]
 pub struct Range {
     pub start: u32,
     pub len: u32,
 }
 
 // A text: stored empty, or in a slot of the pool.
-#[derive(Drop)]
+#[derive(Clone, Copy)]
 pub enum Chars {
     Empty,
     Expanded(TextSlot),
 }
 
-#[derive(Drop)]
+#[derive(Clone, Copy)]
 pub enum Parent {
     None,
     Of(NodeId),
 }
 
-#[derive(Drop)]
+#[derive(Clone, Copy)]
 pub enum NodeData {
     Root,
     Element {
@@ -60,7 +60,7 @@ pub enum NodeData {
     },
 }
 
-#[derive(Drop)]
+#[derive(Clone, Copy)]
 pub struct Node {
     pub data: NodeData,
     pub parent: Parent,
@@ -68,21 +68,21 @@ pub struct Node {
 }
 
 // The node that words are, or that they are none.
-#[derive(Drop)]
+#[derive(Clone, Copy)]
 pub enum Loaded {
     Found(Node),
     NoNode,
 }
 
 // Two words of a record that hold a range.
-#[derive(Drop)]
+#[derive(Clone, Copy)]
 pub struct Span {
     pub start: u64,
     pub len: u64,
 }
 
 // The node record: the twelve words of a slot by name, whether or not they are a node.
-#[derive(Drop)]
+#[derive(Clone, Copy)]
 pub struct NodeRecord {
     pub kind: u64,
     pub name: u64,

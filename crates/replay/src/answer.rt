@@ -134,7 +134,7 @@ fn is_silent(line: &[u8]) -> bool {
 
 // What is kept from line to line: the record, where what waits to be written ends, how many lines there were, and whether the start of the
 // line that comes was dropped, since it is too long.
-#[derive(Drop)]
+#[derive(Clone, Copy)]
 pub struct Session {
     pub document: Document,
     pub at: usize,
@@ -143,7 +143,7 @@ pub struct Session {
 }
 
 // The record after a line, and where what waits to be written ends.
-#[derive(Drop)]
+#[derive(Clone, Copy)]
 struct After {
     document: Document,
     at: usize,

@@ -10,7 +10,7 @@ use records::NodeId;
 use tree::start::StartAnswer;
 
 // What a call answers; nothing where the line is no editing call.
-#[derive(Drop)]
+#[derive(Clone, Copy)]
 pub enum Reply {
     Nothing,
     Done,
@@ -21,7 +21,7 @@ pub enum Reply {
 }
 
 // The record after a line, and what the line answers.
-#[derive(Drop)]
+#[derive(Clone, Copy)]
 pub struct After {
     pub document: Document,
     pub reply: Reply,

@@ -10,14 +10,14 @@ use printing::sink::flush;
 const NEWLINE: u8 = 10;
 
 // What the whole lines of the input answered, and where the line starts that is not whole.
-#[derive(Drop)]
+#[derive(Clone, Copy)]
 struct Progress {
     session: Session,
     from: usize,
 }
 
 // What a read leaves: how many bytes of a line that is not whole stand at the front of the input, and whether more may come.
-#[derive(Drop)]
+#[derive(Clone, Copy)]
 struct Input {
     session: Session,
     rest: usize,

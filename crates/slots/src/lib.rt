@@ -6,7 +6,7 @@ pub mod rule;
 pub mod slot;
 
 // A slot's position in document order, if it has one.
-#[derive(Drop)]
+#[derive(Clone, Copy)]
 pub enum OrderKey {
     None,
     At(u32),

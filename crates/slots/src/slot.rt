@@ -8,7 +8,7 @@ use records::{Loaded, NodeId};
 use words::NodeSlot;
 
 // A slot that was taken, with the counts after.
-#[derive(Drop)]
+#[derive(Clone, Copy)]
 pub struct Taken {
     pub id: NodeId,
     pub made: usize,

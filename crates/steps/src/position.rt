@@ -3,7 +3,7 @@ ghost use Rattle.std.specs.Prelude.{◌≡◌};
 ghost use Rattle.steps.specs.Next.{hint_for, with_hint, start};
 
 // Where the node listed last in a list of fewer than 16, 256 and 4,096 entries, and in a longer one, stood in it. A hint is tried before it is believed.
-#[derive(Drop)]
+#[derive(Clone, Copy)]
 pub struct Hints {
     pub short: usize,
     pub middling: usize,
@@ -12,7 +12,7 @@ pub struct Hints {
 }
 
 // The node where the walk began, the node listed last, the hints, and how many nodes may be listed yet. A handle is a word.
-#[derive(Drop)]
+#[derive(Clone, Copy)]
 pub struct Position {
     pub zone: u64,
     pub node: u64,
@@ -21,7 +21,7 @@ pub struct Position {
 }
 
 // A step's outcome.
-#[derive(Drop)]
+#[derive(Clone, Copy)]
 pub enum Walked {
     At(Position),
     End,

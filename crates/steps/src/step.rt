@@ -16,7 +16,7 @@ use records::{NodeId, Parent, Range};
 use showing::shown::{live_shown_block, live_shown_parent, shown_parent};
 
 // One turn of the search for the node that follows another: there is none, it is found, or it is behind the parent, with the room that is left.
-#[derive(Drop)]
+#[derive(Clone, Copy)]
 pub enum Sought {
     End,
     At(Position),

@@ -10,14 +10,14 @@ pub mod check;
 pub mod storing;
 
 // How many text slots, and how many bytes of texts, there may be.
-#[derive(Drop)]
+#[derive(Clone, Copy)]
 pub struct TextLimits {
     pub slots: usize,
     pub bytes: usize,
 }
 
 // How many slots were made, how many of them are free, and how many bytes are used.
-#[derive(Drop)]
+#[derive(Clone, Copy)]
 pub struct TextCounts {
     pub slots: usize,
     pub free: usize,

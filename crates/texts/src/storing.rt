@@ -10,14 +10,14 @@ use words::TextSlot;
 use words::ends::{Place, piece_start};
 
 // What a text field holds: nothing for a text stored empty.
-#[derive(Drop)]
+#[derive(Clone, Copy)]
 pub enum TextField {
     Nothing,
     Slot(TextSlot),
 }
 
 // The field of a stored text, and the counts after.
-#[derive(Drop)]
+#[derive(Clone, Copy)]
 pub struct Stored {
     pub field: TextField,
     pub counts: TextCounts,

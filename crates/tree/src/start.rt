@@ -6,7 +6,7 @@ use layout::{Document, Limits};
 use model::Refusal;
 
 // The record that goes with the memory, or why there is none.
-#[derive(Drop)]
+#[derive(Clone, Copy)]
 pub enum StartAnswer {
     Started(Document),
     Refused(Refusal),

@@ -3,7 +3,7 @@ use chars::Check;
 use productions::checks as rules;
 
 // Which check a case is for.
-#[derive(Drop)]
+#[derive(Clone, Copy)]
 pub enum Kind {
     Utf8,
     Name,

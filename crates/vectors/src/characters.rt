@@ -11,7 +11,7 @@ fn group(name: &[u8], kind: Kind, cases: &[u8]) {
 }
 
 // Which test a code point is for.
-#[derive(Drop)]
+#[derive(Clone, Copy)]
 enum Test {
     Class,
     Char,

@@ -9,7 +9,7 @@ ghost use Rattle.verdicts.specs.Verdicts.{verdict_number};
 use chars::Check;
 use model::Refusal;
 
-#[derive(Drop)]
+#[derive(Clone, Copy)]
 pub enum Verdict {
     Accepted,
     Refused(Refusal),

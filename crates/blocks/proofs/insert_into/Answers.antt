@@ -1,0 +1,46 @@
+-- `blocks::insert_into` meets its contract: no room, room in place, or a move.
+-- Assumes nothing.
+use native.Mathlib.Omega.{arith}
+use Rattle.blocks.proofs.Halves.{held-len, held_fits}
+use Rattle.blocks.proofs.Inserts.{spare-fits, moved_more, inserts-full, inserts-in-place, inserts-moved}
+use Rattle.blocks.proofs.insert_into.Goals as goal
+
+pub entries_for-more-requires : goal.entries_for-more-requires
+entries_for-more-requires c =
+    let pre = c.requires in
+    (held_fits _ _ _ _ _ pre, pre.twice)
+
+pub returns-then-limit-used : goal.returns-then-limit-used
+returns-then-limit-used c = record { value = (inserts-full _ _ _ _ _ c.requires _ _ _ (c.entries_for-more.ensures _) c.if-limit-used.true).0; arena_after = (inserts-full _ _ _ _ _ c.requires _ _ _ (c.entries_for-more.ensures _) c.if-limit-used.true).1 }
+
+pub insert_in_place-requires : goal.insert_in_place-requires
+insert_in_place-requires c =
+    let pre = c.requires in
+    (omega (arith, c.least-index.ensures), spare-fits _ _ _ _ _ pre _ (c.entries_for-more.ensures _) c.if-more-eq0.true)
+
+pub overflow_add-result : goal.overflow_add-result
+overflow_add-result c =
+    let pre = c.requires in
+    omega (arith, held_fits _ _ _ _ _ pre, pre.twice)
+
+pub returns-then-more-eq0 : goal.returns-then-more-eq0
+returns-then-more-eq0 c =
+    record { value = (inserts-in-place _ _ _ _ _ c.requires _ _ _ (c.entries_for-more.ensures _) c.if-limit-used.false _ c.least-index.ensures c.if-more-eq0.true _ c.insert_in_place.ensures).0; arena_after = (inserts-in-place _ _ _ _ _ c.requires _ _ _ (c.entries_for-more.ensures _) c.if-limit-used.false _ c.least-index.ensures c.if-more-eq0.true _ c.insert_in_place.ensures).1 }
+
+pub move_block_with-requires : goal.move_block_with-requires
+move_block_with-requires c =
+    let pre = c.requires in record { arena_len = pre.twice; at_le_len = (
+        omega (arith, c.least-index.ensures),
+        held-len _ _ _ _ _ pre,
+        moved_more _ _ _ _ _ pre _ (c.entries_for-more.ensures _) c.if-more-eq0.false,
+        omega (arith, c.if-limit-used.false, pre.fits),
+      ) }
+
+pub overflow_add-result-2 : goal.overflow_add-result-2
+overflow_add-result-2 c =
+    let pre = c.requires in
+    omega (arith, held_fits _ _ _ _ _ pre, pre.twice)
+
+pub returns : goal.returns
+returns c =
+    record { value = (inserts-moved _ _ _ _ _ c.requires _ _ _ (c.entries_for-more.ensures _) c.if-limit-used.false _ c.least-index.ensures c.if-more-eq0.false _ c.move_block_with.ensures).0; arena_after = (inserts-moved _ _ _ _ _ c.requires _ _ _ (c.entries_for-more.ensures _) c.if-limit-used.false _ c.least-index.ensures c.if-more-eq0.false _ c.move_block_with.ensures).1 }

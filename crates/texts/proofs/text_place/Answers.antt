@@ -1,0 +1,21 @@
+-- `texts::text_place` meets its contract.
+-- Assumes nothing.
+use mathlib.Core.Path.{◌≡◌}
+use mathlib.Core.List.{List}
+use Prim.Native.Nat.{ℕ, min}
+use Rattle.words.specs.declared.ends.Place.{Place}
+use Rattle.words.specs.Ends.{piece_place}
+use Rattle.texts.specs.Words.{place_shown}
+use Rattle.texts.specs.declared.TextLimits.{TextLimits}
+use Rattle.texts.specs.declared.TextCounts.{TextCounts}
+use Rattle.texts.proofs.text_place.Goals as goal
+
+shown : (limits : TextLimits) (counts : TextCounts) (slot n used : ℕ) (words : List ℕ) (r : Place) → n ≡ min counts.slots limits.slots → used ≡ min counts.bytes limits.bytes
+    → r ≡ piece_place n used slot words → r ≡ place_shown limits counts slot words
+unfolding place_shown
+shown limits counts slot n used words r e f g = rw (e, f) at g
+
+pub returns : goal.returns
+returns c =
+    let a = c.args in
+    shown a.limits a.counts a.slot.0 _ _ a.words.now _ c.least-n.ensures c.least-used.ensures c.locate.ensures
