@@ -9,6 +9,6 @@ pub fn put_bytes(out: &mut [u8], at: usize, text: &[u8]) -> usize
     ensures out_after { out.new ≡ put at text.now out.old }
 {
     let end = at + text.len();
-    bytes::copy(text, &mut out[at..end]);
+    out[at..end].copy_from_slice(text);
     end
 }
