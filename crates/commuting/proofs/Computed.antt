@@ -90,13 +90,13 @@ steps b e document answer accepted editing limits words scratch = record {
 
 pub record Computed : Type 0 where
   pub zone-made : Steps begun zone_made
-  pub inner_made : Steps zone_made inner_made
+  pub inner-made : Steps zone_made inner_made
   pub zone-earlier : Steps inner_made zone_earlier
   pub inner-later : Steps zone_earlier inner_later
   pub inner-earlier : Steps inner_made inner_earlier
   pub zone-later : Steps inner_earlier zone_later
   pub zone-first : Steps inner_later zone_first_renewed
-  pub inner_first : Steps zone_later inner_first_renewed
+  pub inner-first : Steps zone_later inner_first_renewed
   pub told : Tells handles register seed
   pub independently : independent (decode inner_made.document inner_made.memory) zone_move inner_move ≡ true
   pub ranges : (range_in (decode inner_later.document inner_later.memory) children 0 ≡ block 8 1)
@@ -107,13 +107,13 @@ unfolding guarded part put insert_at takes has_room inserted removed interned na
 computed =
     record {
       zone-made = steps _ _ (same-document _ _ refl refl refl refl refl (refl, refl, refl) (refl, refl, refl) refl refl refl refl refl refl) refl refl refl (refl, refl) (refl, refl) (refl, refl);
-      inner_made = steps _ _ (same-document _ _ refl refl refl refl refl (refl, refl, refl) (refl, refl, refl) refl refl refl refl refl refl) refl refl refl (refl, refl) (refl, refl) (refl, refl);
+      inner-made = steps _ _ (same-document _ _ refl refl refl refl refl (refl, refl, refl) (refl, refl, refl) refl refl refl refl refl refl) refl refl refl (refl, refl) (refl, refl) (refl, refl);
       zone-earlier = steps _ _ (same-document _ _ refl refl refl refl refl (refl, refl, refl) (refl, refl, refl) refl refl refl refl refl refl) refl refl refl (refl, refl) (refl, refl) (refl, refl);
       inner-later = steps _ _ (same-document _ _ refl refl refl refl refl (refl, refl, refl) (refl, refl, refl) refl refl refl refl refl refl) refl refl refl (refl, refl) (refl, refl) (refl, refl);
       inner-earlier = steps _ _ (same-document _ _ refl refl refl refl refl (refl, refl, refl) (refl, refl, refl) refl refl refl refl refl refl) refl refl refl (refl, refl) (refl, refl) (refl, refl);
       zone-later = steps _ _ (same-document _ _ refl refl refl refl refl (refl, refl, refl) (refl, refl, refl) refl refl refl refl refl refl) refl refl refl (refl, refl) (refl, refl) (refl, refl);
       zone-first = steps _ _ (same-document _ _ refl refl refl refl refl (refl, refl, refl) (refl, refl, refl) refl refl refl refl refl refl) refl refl refl (refl, refl) (refl, refl) (refl, refl);
-      inner_first = steps _ _ (same-document _ _ refl refl refl refl refl (refl, refl, refl) (refl, refl, refl) refl refl refl refl refl refl) refl refl refl (refl, refl) (refl, refl) (refl, refl);
+      inner-first = steps _ _ (same-document _ _ refl refl refl refl refl (refl, refl, refl) (refl, refl, refl) refl refl refl refl refl refl) refl refl refl (refl, refl) (refl, refl) (refl, refl);
       told = (λ lt. refl, (λ lt. refl, tt));
       independently = refl;
       ranges = (refl, refl);

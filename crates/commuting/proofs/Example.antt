@@ -82,8 +82,8 @@ module _ (m n : Move) (e f : Event) (p : e.call ≡ call_of m) (q : f.call ≡ c
   between : Standing e (tree_after handles e (tree_end handles register seed))
   between = (went handles built m e (promised inner_made e built s) p s.accepted).stands
 
-  abbrev in_order : InOrder inner_made.document inner_made.memory m n
-  in_order =
+  abbrev in-order : InOrder inner_made.document inner_made.memory m n
+  in-order =
       record {
         earlier = e;
         later = f;
@@ -102,10 +102,10 @@ module _ (m n : Move) (e f : Event) (p : e.call ≡ call_of m) (q : f.call ≡ c
       }
 
 abbrev zone-first : InOrder inner_made.document inner_made.memory zone_move inner_move
-zone-first = in_order zone_move inner_move zone_earlier inner_later refl refl computed.zone-earlier computed.inner-later
+zone-first = in-order zone_move inner_move zone_earlier inner_later refl refl computed.zone-earlier computed.inner-later
 
-abbrev inner_first : InOrder inner_made.document inner_made.memory inner_move zone_move
-inner_first = in_order inner_move zone_move inner_earlier zone_later refl refl computed.inner-earlier computed.zone-later
+abbrev inner-first : InOrder inner_made.document inner_made.memory inner_move zone_move
+inner-first = in-order inner_move zone_move inner_earlier zone_later refl refl computed.inner-earlier computed.zone-later
 
 pub example : Example
 example =
@@ -115,7 +115,7 @@ example =
       told = computed.told;
       are_independent = computed.independently;
       zone_first = zone-first;
-      inner_first = inner_first;
+      inner_first = inner-first;
       later = (refl, refl);
       renewals = (
         renewal zone_move inner_move zone_earlier inner_later refl refl computed.zone-earlier computed.inner-later zone_first_renewed refl computed.zone-first,
@@ -124,6 +124,6 @@ example =
       renewed_keys = (refl, refl);
       alike =
           either_order limits (replicate 80 7) (replicate 80 0) (counted 1 0 0 true) started register called handles refl computed.told
-          zone_move inner_move computed.independently zone-first inner_first;
+          zone_move inner_move computed.independently zone-first inner-first;
       ranges = computed.ranges;
     }

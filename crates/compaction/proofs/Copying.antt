@@ -108,8 +108,8 @@ module _ (d : Document) (mem : List ℕ) (w : Which) (s : ℕ) (used : Lengths) 
     len_is : r.len ≡ (range_in (decode d mem) w s).len
     len_is = ap (λ (b : Block). b.len) block-is
 
-    pub block_inside : r.start + r.len ≤ entries_of d.limits w
-    block_inside = omega (arith, start_is, len_is, L.inside)
+    pub block-inside : r.start + r.len ≤ entries_of d.limits w
+    block-inside = omega (arith, start_is, len_is, L.inside)
 
     pub block_room : length_of used w + r.len ≤ entries_of d.limits w
     block_room = omega (arith, len_is, L.room)
@@ -118,7 +118,7 @@ module _ (d : Document) (mem : List ℕ) (w : Which) (s : ℕ) (used : Lengths) 
     list-is = ap (list_of (arena_in d w mem)) (sym block-is)
 
     list_length : length (list_in (decode d mem) w s) ≡ r.len
-    list_length = ap length list-is ∙ length_part (arena_in d w mem).ids r.start r.len (omega (arith, block_inside, length_ids d mem L.memory w))
+    list_length = ap length list-is ∙ length_part (arena_in d w mem).ids r.start r.len (omega (arith, block-inside, length_ids d mem L.memory w))
 
     module _ (start : ℕ) (es : start ≡ length_of used w) (mem₁ : List ℕ) (C : ArenaCopied d mem mem₁ w start r.start r.len) where
       arena-size : length mem₁ ≡ length mem
@@ -178,7 +178,7 @@ module _ (d : Document) (mem : List ℕ) (w : Which) (s : ℕ) (used : Lengths) 
             ap (decode d) e₂
             ∙ range-promise d mem₁ arena-ok s slot-made n.node (ap (λ (x : List ℕ). loaded_at d.limits.nodes x s) slots_same ∙ n.loaded) w range
             (ap (has_range w) (sym n.kind) ∙ L.owner)
-            (omega (arith, es, block_room, narrow), omega (arith, block_inside, narrow))
+            (omega (arith, es, block_room, narrow), omega (arith, block-inside, narrow))
 
         ranges-are : (v : Which) → update_which (decode d mem).ranges w (set ((decode d mem).ranges w) s (block start r.len)) v ≡ (list_laid (decode d mem) (copies_in d mem used) w s v).ranges
         unfolding copied

@@ -21,7 +21,7 @@ use Rattle.model.specs.Rules.{Rules, Ends, top, up}
 use Rattle.model.specs.Edits.{walk, rebuilt}
 use Rattle.laws.proofs.Rebuilt.{container-child}
 use Rattle.laws.proofs.Wf.{Distinct}
-use Rattle.laws.proofs.Basics.{live_below, count-mem}
+use Rattle.laws.proofs.Basics.{live-below, count-mem}
 use Rattle.laws.proofs.Membership.{mem-joined, mem-reverse, mem-reverse-old, distinct-reverse}
 use Rattle.laws.proofs.Laid.{mem-tabulate}
 use Rattle.laws.proofs.Rebuilt.{mem-keep}
@@ -94,7 +94,7 @@ module _ (D : Doc) (R : Rules D) (few : length D.gens ≤ 65536) where
       omega (
         arith,
         met-counted D i met stack M,
-        visited-fits (next D) (Live D) (parent_at D) (TopBelow D i) handle_index (length D.gens) (λ y l. live_below D (handle_index y) (live_of D y l.0))
+        visited-fits (next D) (Live D) (parent_at D) (TopBelow D i) handle_index (length D.gens) (λ y l. live-below D (handle_index y) (live_of D y l.0))
             (λ y z a b e. same_index D y z a.0 b.0 e) M.count stack M.visiting,
       )
 
@@ -123,13 +123,13 @@ module _ (D : Doc) (R : Rules D) (few : length D.gens ≤ 65536) where
 
     module _ (l : live_slot D i ≡ true) (e : parent_in D i ≡ none) where
       index_is : handle_index (handle_at D i) ≡ i
-      index_is = handle_index-word_of (record { index = i; generation = generation_at D i }) (omega (arith, live_below D i l))
+      index_is = handle_index-word_of (record { index = i; generation = generation_at D i }) (omega (arith, live-below D i l))
 
       pub top-live : Live D (handle_at D i)
       top-live = (
         and_both (live_slot D (handle_index (handle_at D i))) (eqb (generation_at D (handle_index (handle_at D i))) (handle_generation (handle_at D i)))
             (ap (live_slot D) index_is ∙ l)
-            (eq-eqb _ _ (ap (generation_at D) index_is ∙ sym (handle_generation-word_of (record { index = i; generation = generation_at D i }) (omega (arith, live_below D i l))))),
+            (eq-eqb _ _ (ap (generation_at D) index_is ∙ sym (handle_generation-word_of (record { index = i; generation = generation_at D i }) (omega (arith, live-below D i l))))),
         ap (λ (k : ℕ). which_of (kind_in D k)) index_is ∙ R.parents.detached i l e,
       )
 
@@ -221,7 +221,7 @@ module _ (D : Doc) (R : Rules D) (few : length D.gens ≤ 65536) where
   -- every live node that has no parent or stands among children is met
   meets : {i : ℕ} → Ends D i → live_slot D i ≡ true → which_of (kind_in D i) ≡ children → Memᴰ (handle_at D i) (rebuilt D)
   meets {i} (Ends.top e) l c =
-      let b = live_below D i l in
+      let b = live-below D i l in
       let x : handle_index (handle_at D i) ≡ i = handle_index-word_of (record { index = i; generation = generation_at D i }) (omega arith) in
       mem-joined walk_from (tops_below D (length D.gens))
       (mem-keep (λ h. is_none (parent_at D h)) (joined live_in (tabulate (λ k. k) (length D.gens))) (ap (λ (k : ℕ). is_none (parent_in D k)) x ∙ ap is_none e)

@@ -21,7 +21,7 @@ use Rattle.model.specs.Doc.{Doc, generation_at, live_slot, handle_at, kind_in, k
 use Rattle.model.specs.Rules.{Rules, Shape, has_range, block_in}
 use Rattle.model.specs.Edits.{Laying, laying_from, laying, rebuilt, rebuild_arenas}
 use Rattle.laws.proofs.Wf.{Distinct}
-use Rattle.laws.proofs.Basics.{live_below, live-node}
+use Rattle.laws.proofs.Basics.{live-below, live-node}
 use Rattle.laws.proofs.Membership.{mem-map}
 use Rattle.laws.proofs.Laid.{range_of, Packed, laid_all, laid_all-other, laid_all-caps, packed_all, packed-blocks}
 use Rattle.laws.proofs.Rebuilt.{mem-keep}
@@ -84,7 +84,7 @@ module _ (D : Doc) (R : Rules D) (H : Shape D) (few : length D.gens ≤ 65536) w
         (packed_all (list_in D w) slots (λ i. ⊥) (laying_from D w)
         (record { fits = omega arith; lists = λ i v. absurd v; inside = λ i v. absurd v; apart = λ i j v u n. absurd v })
         (slots-once D (rebuilt D) once live w) (λ i m v. v)
-        (λ i m. omega (arith, live_below D i (slot-live D (rebuilt D) once live w i m), H.ranges w))
+        (λ i m. omega (arith, live-below D i (slot-live D (rebuilt D) once live w i m), H.ranges w))
         (omega (arith, slots-fit D (rebuilt D) once live w R, (R.blocks w).shaped.fits)))
 
     caps-after : (laying D w).arena.caps ≡ replicate (length (D.arenas w).caps) 0
@@ -99,7 +99,7 @@ module _ (D : Doc) (R : Rules D) (H : Shape D) (few : length D.gens ≤ 65536) w
       where
         go : (t : Bool) → has_range w (kind_in D i) ≡ t → LaidOrUnused i
         go true e =
-            let x : handle_index (handle_at D i) ≡ i = handle_index-word_of (record { index = i; generation = generation_at D i }) (omega (arith, live_below D i l)) in
+            let x : handle_index (handle_at D i) ≡ i = handle_index-word_of (record { index = i; generation = generation_at D i }) (omega (arith, live-below D i l)) in
             inl
             (subst (λ (k : ℕ). Memᴰ k slots) x
             (mem-map handle_index (keep (λ h. has_list w (is_element (kind_at D h))) (rebuilt D))

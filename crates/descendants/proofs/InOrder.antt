@@ -50,15 +50,15 @@ module _ {t : Tree} (W : WF t) where
       ∙ ap (λ (l : List ℕ). l ++ keep child j) (keep-none child (t.lists attributes x) (λ y m. of attributes x y lx m))
       ∙ e
 
-  pub in_order : (f x : ℕ) → t.live x ≡ true → which_of (t.kind x) ≡ children → keep child (in_order (suc f) t.lists x) ≡ x ∷ below f (t.lists children) x
-  in_order zero x lx c =
+  pub in-order : (f x : ℕ) → t.live x ≡ true → which_of (t.kind x) ≡ children → keep child (in_order (suc f) t.lists x) ≡ x ∷ below f (t.lists children) x
+  in-order zero x lx c =
       rw c (ap (λ (l : List ℕ). x ∷ l) (behind-it zero x lx [] (ap (keep child) (joined-nothing (t.lists children x)))))
-  in_order (suc f) x lx c =
+  in-order (suc f) x lx c =
       rw c (ap (λ (l : List ℕ). x ∷ l)
       (behind-it (suc f) x lx (below (suc f) (t.lists children) x)
       (keep-joined child (λ y. in_order (suc f) t.lists y) (λ y. y ∷ below f (t.lists children) y) (t.lists children x)
-      (λ y m. let o = W.downward children x y lx m in in_order f y o.0 o.2))))
+      (λ y m. let o = W.downward children x y lx m in in-order f y o.0 o.2))))
 
   -- "in document order without attributes and namespaces"
   pub ordered : (b : ℕ) → t.live b ≡ true → which_of (t.kind b) ≡ children → keep child (in_order (suc t.births) t.lists b) ≡ b ∷ descendants t b
-  ordered b lb c = in_order t.births b lb c
+  ordered b lb c = in-order t.births b lb c

@@ -74,8 +74,8 @@ module _ (D : Doc) (sh : Shape D) (narrow : length D.gens < 4294967296) (ready :
 
   -- ---- every other slot is as it was
 
-  live_below : (s : ℕ) → live_slot D s ≡ true → s < length D.gens
-  live_below s h = go (dec_lt s (length D.gens))
+  live-below : (s : ℕ) → live_slot D s ≡ true → s < length D.gens
+  live-below s h = go (dec_lt s (length D.gens))
     where
       go : Dec (s < length D.gens) → s < length D.gens
       go (yes b) = b
@@ -89,7 +89,7 @@ module _ (D : Doc) (sh : Shape D) (narrow : length D.gens < 4294967296) (ready :
     where
       go : (f : List ℕ) → D.free ≡ f → RoomIn (born_from f D k p names) w s
       go [] e =
-          let b = live_below s r.live in
+          let b = live-below s r.live in
           let kb : s < length D.kinds = omega (arith, sh.kinds) in
           let rb : s < length (D.ranges w) = omega (arith, sh.ranges w) in
           room-same (born_from [] D k p names) D w s refl refl

@@ -53,8 +53,8 @@ module _ {A : Type 0} where
 
 -- ---- a node with another field
 
-pub field_of : (x y : NodeData) (f : Chars) → x ≡ y → with_field y f ≡ with_field x f
-field_of x y f e = ap (λ (z : NodeData). with_field z f) (sym e)
+pub field-of : (x y : NodeData) (f : Chars) → x ≡ y → with_field y f ≡ with_field x f
+field-of x y f e = ap (λ (z : NodeData). with_field z f) (sym e)
 
 pub filled-as : (m : Node) (f : Chars) (x : NodeData) → x ≡ with_field m.«data» f → record { «data» = x; parent = m.parent; children = m.children } ≡ filled m f
 filled-as m f x e = λ i. record { «data» = e i; parent = m.parent; children = m.children }

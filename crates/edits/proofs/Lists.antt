@@ -31,11 +31,11 @@ module _ (d : Document) (mem : List ℕ) (w : Which) (s : ℕ) (h : BlockHeld d 
   list-long : length (list_in (decode d mem) w s) ≡ (range_in (decode d mem) w s).len
   list-long =
       let b = range_from (range_in (decode d mem) w s) in
-      let k = blocks.block_held d mem w s h b (blocks.block_in d mem w s h) in
+      let k = blocks.block_held d mem w s h b (blocks.block-in d mem w s h) in
       list_length ((decode d mem).arenas w) (range_in (decode d mem) w s) (shaped-held (arena_part d w mem) (entries_of d.limits w) (arena_used d w) b.start b.len k) h.inside
 
   block-long : (b : Range) → block_of b ≡ range_loaded w (loaded_at d.limits.nodes (slots_part d mem) s) → b.len ≡ length (list_in (decode d mem) w s)
-  block-long b e = ap (λ (x : Block). x.len) (e ∙ sym (blocks.block_in d mem w s h)) ∙ sym list-long
+  block-long b e = ap (λ (x : Block). x.len) (e ∙ sym (blocks.block-in d mem w s h)) ∙ sym list-long
 
 module _ (d : Document) (mem : List ℕ) (w : Which) (parent : NodeId) (pi : parent.index < 4294967296) (h : ℕ) (a : Attachable d mem w (word_of parent) h) where
   owner-held : BlockHeld d mem w parent.index

@@ -99,7 +99,7 @@ module _ (d : Document) (mem : List ℕ) (w : Which) (s : ℕ) (h : BlockHeld d 
   b = range_from (range_in (decode d mem) w s)
 
   held : Held (arena_part d w mem) (entries_of d.limits w) (arena_used d w) b.start b.len
-  held = blocks.block_held d mem w s h b (blocks.block_in d mem w s h)
+  held = blocks.block_held d mem w s h b (blocks.block-in d mem w s h)
 
   slot : s < d.limits.nodes
   slot = blocks.slot-in d mem w s h

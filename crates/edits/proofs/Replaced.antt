@@ -27,7 +27,7 @@ use Rattle.model.specs.Edits.{set_kind}
 use Rattle.model.specs.Arguments.{first, not_utf8}
 use Rattle.model.specs.Checks.{a_text, text_under, check_set_text}
 use Rattle.model.specs.Calls.{set-text, done, Out, answers, full_unless, under_root, replacement_fits, replaceable_at, with_replaced}
-use Rattle.laws.proofs.Basics.{mem-count, live-node, live_below}
+use Rattle.laws.proofs.Basics.{mem-count, live-node, live-below}
 use Rattle.laws.proofs.Counting.{below, below-mem}
 use Rattle.laws.proofs.Membership.{mem-joined}
 use Rattle.laws.proofs.Shown.{held-here, held-there}
@@ -77,7 +77,7 @@ slot-inside D r i s l m = go (dec_lt s (length D.pool.texts))
     here = subst (λ (b : Bool). Memᴰ s (cond b (slots_held (texts_of (kind_in D i))) [])) (sym l) m
 
     there : 0 < count_of (eqb s) (held D)
-    there = mem-count s (held D) (mem-joined (held_in D) (below (length D.gens)) (below-mem (length D.gens) i (live_below D i l)) here)
+    there = mem-count s (held D) (mem-joined (held_in D) (below (length D.gens)) (below-mem (length D.gens) i (live-below D i l)) here)
 
     go : Dec (s < length D.pool.texts) → s < length D.pool.texts
     go (yes b) = b
@@ -158,7 +158,7 @@ module _ (d : Document) (mem : List ℕ) (h : ℕ) (t : List ℕ) (r : Replaceab
     kinds_kept : set (decode d mem).kinds (handle_index h) (some (with_text (kind_at (decode d mem) h) (some s))) ≡ (decode d mem).kinds
     kinds_kept =
         let z = shape (pool_in d mem) (names_in d mem) (lengths_add d mem) d mem r.undamaged.memory in
-        set-kept D.kinds (handle_index h) none (some (with_text (kind_at D h) (some s))) (omega (arith, z.kinds, live_below D (handle_index h) live_here))
+        set-kept D.kinds (handle_index h) none (some (with_text (kind_at D h) (some s))) (omega (arith, z.kinds, live-below D (handle_index h) live_here))
         (live-node D (handle_index h) live_here ∙ ap some (sym (text_same (kind_at D h) s q)))
 
     slot-as : (e : Document) (mem' : List ℕ) → Step d mem e mem' (set_pool (decode d mem) (replaced (decode d mem).pool (some s) t))

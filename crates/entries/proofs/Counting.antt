@@ -34,7 +34,7 @@ use Rattle.entries.specs.Entering.{list_number, enters, entries_in, entries_ente
 use Rattle.entries.proofs.Lists.{gathered-map, all_below-all, all_same}
 use Rattle.entries.proofs.Marks.{counted_none, adds_none, adds_then, adds_one, passed, refused, Passing, passing-next, passing-not, passing-all}
 use Rattle.entries.proofs.Entering.{entries-no, entries-yes}
-use Rattle.entries.proofs.Words.{live_below, record-word, block-word, block-at-below}
+use Rattle.entries.proofs.Words.{live-below, record-word, block-word, block-at-below}
 use Rattle.entries.proofs.EntryWords.{entry-below, words-enter}
 
 -- ---- an entry is counted
@@ -66,10 +66,10 @@ module _ (made : ℕ) (q : ℕ → Bool) (ids : List ℕ) (start len : ℕ) (bef
       → Pass made (q (get_or (part start len ids) k 0)) (handle_index (get_or (part start len ids) k 0) ∷ []) m n r
   entry_of k m n r h p = rw (get_d_part ids start len k 0 h) p
 
-  block_of : (m : List ℕ) (r : Bool) → start + len ≤ length ids
+  block-of : (m : List ℕ) (r : Bool) → start + len ≤ length ids
       → Pass made (all_below (λ i. q (get_or (part start len ids) i 0)) len) (gathered (λ i. handle_index (get_or (part start len ids) i 0) ∷ []) len) before m r
       → Pass made (all q (part start len ids)) (map handle_index (part start len ids)) before m r
-  block_of m r h p =
+  block-of m r h p =
       let n = length_part ids start len h in
       let a : all_below (λ i. q (get_or (part start len ids) i 0)) len ≡ all q (part start len ids) =
       ap (all_below (λ i. q (get_or (part start len ids) i 0))) (sym n) ∙ all_below-all q (part start len ids) 0 in
@@ -85,19 +85,19 @@ module _ (made : ℕ) (q : ℕ → Bool) (ids : List ℕ) (start len : ℕ) (bef
     pub block-not : start + len ≤ length ids → k < len → Pass made (q (get_or ids (start + k) 0)) (handle_index (get_or ids (start + k) 0) ∷ []) marks after r → not r ≡ true
         → Pass made (all q (part start len ids)) (map handle_index (part start len ids)) before after false
     block-not f h p e =
-        block_of after false f
+        block-of after false f
         (passing-not made len (λ i. q (get_or (part start len ids) i 0)) (λ i. handle_index (get_or (part start len ids) i 0) ∷ []) before marks after k s r h (entry_of k marks after r h p) e)
 
   pub block-all : (marks : List ℕ) (k : ℕ) → Blocking marks k → start + len ≤ length ids → len ≤ k
       → Pass made (all q (part start len ids)) (map handle_index (part start len ids)) before marks true
   block-all marks k s f h =
-      block_of marks true f (passing-all made len (λ i. q (get_or (part start len ids) i 0)) (λ i. handle_index (get_or (part start len ids) i 0) ∷ []) before marks k s h)
+      block-of marks true f (passing-all made len (λ i. q (get_or (part start len ids) i 0)) (λ i. handle_index (get_or (part start len ids) i 0) ∷ []) before marks k s h)
 
 -- ---- the list of a slot
 
 -- rule 5: the block lies inside its arena
-block_inside : (D : Doc) → Blocks D → (w : Which) (s : ℕ) → live_slot D s ≡ true → (range_in D w s).start + (range_in D w s).len ≤ length (D.arenas w).ids
-block_inside D B w s l =
+block-inside : (D : Doc) → Blocks D → (w : Which) (s : ℕ) → live_slot D s ≡ true → (range_in D w s).start + (range_in D w s).len ≤ length (D.arenas w).ids
+block-inside D B w s l =
     let i = ((B w).inside s).below in
     let e : block_in D w s ≡ range_in D w s = rw l in
     let f : (range_in D w s).start + cap_of (D.arenas w) (range_in D w s) ≤ (D.arenas w).used = rw e at i in
@@ -125,15 +125,15 @@ module _ (d : Document) (mem : List ℕ) (s : ℕ) (ok : memory_ok d (length mem
   block_read =
       let b = block-at-below a in
       let e : n * 2 + s * 12 + (block_at a + 1) ≡ at + 1 = omega arith in
-      let p = record-word d mem s (block_at a) (live_below d mem s l) (omega arith) in
+      let p = record-word d mem s (block_at a) (live-below d mem s l) (omega arith) in
       let q : get_or mem (at + 1) 0 ≡ record_word d mem s (block_at a + 1) =
-      ap (λ (i : ℕ). get_or mem i 0) (sym e) ∙ record-word d mem s (block_at a + 1) (live_below d mem s l) b in
+      ap (λ (i : ℕ). get_or mem i 0) (sym e) ∙ record-word d mem s (block_at a + 1) (live-below d mem s l) b in
       rw (p, q) (block-word d mem s l a)
 
   module _ (h : blocks_hold (decode_nodes d mem) ≡ true) (first : ℕ) (f : first ≡ arena_at (limits_of d.limits) a) where
     inside-arena : get_or mem at 0 + get_or mem (at + 1) 0 ≤ entries_of d.limits a
     inside-arena =
-        let i = block_inside D (blocks-of-test D (shape no_texts [] true d mem ok) h) a s l in
+        let i = block-inside D (blocks-of-test D (shape no_texts [] true d mem ok) h) a s l in
         omega (arith, rw (sym block_read) at i, length_ids d mem ok a)
 
     -- what the function that reads it asks
@@ -141,7 +141,7 @@ module _ (d : Document) (mem : List ℕ) (s : ℕ) (ok : memory_ok d (length mem
     list_inside =
         let z = sizes d (length mem) ok in
         let b = block-at-below a in
-        let m = live_below d mem s l in
+        let m = live-below d mem s l in
         (omega (arith, z.slots), omega (arith, inside-arena, z.arena a))
 
     entries-here : part (first + get_or mem at 0) (get_or mem (at + 1) 0) mem ≡ entries_in D a s

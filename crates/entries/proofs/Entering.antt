@@ -20,7 +20,7 @@ use Rattle.model.specs.Doc.{Doc, generation_at, live_slot, handle_at, resolves, 
 use Rattle.model.specs.Rules.{Parents}
 use Rattle.model.specs.RulesTest.{implies, all_option, all_which, all_live, entered_once, entry_holds, entries_hold}
 use Rattle.laws.proofs.Handles.{index-handle_word, generation-handle_word, handle-same}
-use Rattle.laws.proofs.Basics.{live_below}
+use Rattle.laws.proofs.Basics.{live-below}
 use Rattle.laws.proofs.Counting.{all-mem}
 use Rattle.laws.proofs.Quantifiers.{which-at}
 use Rattle.entries.specs.Marks.{Counted, gathered}
@@ -75,7 +75,7 @@ module _ (D : Doc) where
     module _ (x p : ℕ) (lx : live_slot D x ≡ true) (ep : parent_in D x ≡ some p) where
       is-handle : (w : Which) (owner h : ℕ) → enters D w owner h ≡ true → x ≡ handle_index h → h ≡ handle_at D x
       is-handle w owner h t e =
-          let b = live_below D x lx in
+          let b = live-below D x lx in
           handle-same h (handle_at D x) (sym e ∙ sym (handle-index x b))
           (sym (told w owner h t).generation ∙ ap (generation_at D) (sym e) ∙ sym (handle-generation x b))
 
@@ -118,7 +118,7 @@ module _ (D : Doc) where
             go (yes e) = eq-eqb x (handle_index h) e ∙ sym (eq-eqb (handle_at D x) h (sym (is-handle w (handle_at D i) h k e)))
             go (no n) =
                 ne_eqb x (handle_index h) n
-                ∙ sym (ne_eqb (handle_at D x) h (λ q. n (sym (handle-index x (live_below D x lx)) ∙ ap handle_index q)))
+                ∙ sym (ne_eqb (handle_at D x) h (λ q. n (sym (handle-index x (live-below D x lx)) ∙ ap handle_index q)))
 
         this-owner : count_of (eqb x) (slots_entered D w i) ≡ count_of (eqb (handle_at D x)) (entries_in D w i)
         this-owner =
@@ -142,7 +142,7 @@ module _ (D : Doc) where
 
         in-parent : count_of (eqb x) (gathered (slots_entered D w) (length D.gens)) ≡ count_of (eqb (handle_at D x)) (list_at D w p)
         in-parent =
-            let b = live_below D (handle_index p) owner-live in
+            let b = live-below D (handle_index p) owner-live in
             gathered-one (eqb x) (slots_entered D w) (length D.gens) (handle_index p) b (λ i c n. other-owner w i (enter-at i c) c n)
             ∙ this-owner w (handle_index p) (enter-at (handle_index p) b)
             ∙ ap (count_of (eqb (handle_at D x))) at-owner

@@ -22,7 +22,7 @@ use Rattle.memory.specs.Decode.{handle_of, slots_made}
 use Rattle.memory.proofs.Columns as columns
 use Rattle.entries.specs.Nodes.{no_texts, decode_nodes, words_hold, record_word, kind_number}
 use Rattle.entries.specs.Entering.{list_number, kind_list, enters, current_word, parent_words, words_enter}
-use Rattle.entries.proofs.Words.{generation-word, record-word, live-word, live_below, kind-word, parent-word, parent-narrow, current-live}
+use Rattle.entries.proofs.Words.{generation-word, record-word, live-word, live-below, kind-word, parent-word, parent-narrow, current-live}
 
 -- ---- what the functions answer
 
@@ -137,7 +137,7 @@ module _ (d : Document) (mem : List ℕ) where
 
   module _ (s : ℕ) (l : live_slot (decode_nodes d mem) s ≡ true) where
     word_read : (k : ℕ) → k < 12 → get_or mem (at s + k) 0 ≡ record_word d mem s k
-    word_read k b = record-word d mem s k (live_below d mem s l) b
+    word_read k b = record-word d mem s k (live-below d mem s l) b
 
     parent-read : (owner : ℕ) → parent_words mem (at s) owner ≡ any_option (eqb owner) (parent_in D s)
     unfolding parent_words

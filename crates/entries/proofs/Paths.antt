@@ -17,7 +17,7 @@ use Rattle.records.specs.Handles.{handle_index, word_of}
 use Rattle.model.specs.Doc.{Doc, live_slot, resolves, parent_in, map_option, or_else}
 use Rattle.model.specs.Rules.{Ends}
 use Rattle.model.specs.RulesTest.{all_option, all_live, ends_within, parents_hold, parents_end_holds}
-use Rattle.laws.proofs.Basics.{live_below}
+use Rattle.laws.proofs.Basics.{live-below}
 use Rattle.laws.proofs.Handles.{index-handle_word}
 use Rattle.laws.proofs.Quantifiers.{live_at}
 use Rattle.laws.proofs.RulesTestEntries.{parents-of-test}
@@ -260,4 +260,4 @@ module _ (D : Doc) (before : List ℕ) where
   checked-all marks i C h p = sym (test-of-ends D (parents-of-test D p) (λ j l. C.ends j (below j l) l))
     where
       below : (j : ℕ) → live_slot D j ≡ true → j < i
-      below j l = let b = live_below D j l in omega arith
+      below j l = let b = live-below D j l in omega arith

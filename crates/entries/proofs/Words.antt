@@ -23,7 +23,7 @@ use Rattle.layout.specs.Layout.{memory_ok}
 use Rattle.memory.specs.Decode.{loaded_at, slots_part, slots_made}
 use Rattle.layout.proofs.Sizes.{sizes}
 use Rattle.memory.proofs.Columns as columns
-pub use Rattle.memory.proofs.Words.{generation-word, record-word, live_below, kind-word, name-word, first-narrow, first_word, second-narrow, second_word, parent-narrow, parent-word, block-word, block_read, block-at-below}
+pub use Rattle.memory.proofs.Words.{generation-word, record-word, live-below, kind-word, name-word, first-narrow, first_word, second-narrow, second_word, parent-narrow, parent-word, block-word, block_read, block-at-below}
 use Rattle.entries.specs.Nodes.{no_texts, decode_nodes, words_hold}
 
 module _ (d : Document) (mem : List ℕ) where
@@ -52,11 +52,11 @@ module _ (d : Document) (mem : List ℕ) where
           rw (lt-ltb (generation_at n w s) 4294967296 (r.generation s b)) (is-node-found (record_at n w s) (r.node s b v)) in
           rw same (sym (columns.live-found no_texts [] true d mem s b (found_node (record_at n w s)) f))
       go (no v) =
-          rw same (ne_eqb (generation_at n w s % 2) 0 v ∙ sym (columns.live_in no_texts [] true d mem s b ∙ rw (ne_eqb (generation_at n w s % 2) 0 v)))
+          rw same (ne_eqb (generation_at n w s % 2) 0 v ∙ sym (columns.live-in no_texts [] true d mem s b ∙ rw (ne_eqb (generation_at n w s % 2) 0 v)))
 
 -- the number of a live slot is of 32 bits
 pub live-narrow : (d : Document) (mem : List ℕ) → memory_ok d (length mem) ≡ true → (s : ℕ) → live_slot (decode_nodes d mem) s ≡ true → s < 4294967296
-live-narrow d mem ok s l = omega (arith, live_below d mem s l, (sizes d (length mem) ok).nodes)
+live-narrow d mem ok s l = omega (arith, live-below d mem s l, (sizes d (length mem) ok).nodes)
 
 -- the node of a handle that resolves is live
 pub current-live : (D : Doc) (handle : ℕ) (t : Bool) → t ≡ resolves D handle → t ≡ true → live_slot D (handle % 4294967296) ≡ true

@@ -104,8 +104,8 @@ module _ (d : Document) (mem : List ℕ) where
           let m : min d.counts.names d.limits.names ≤ d.limits.names = min-le_right d.counts.names d.limits.names in
           rw (there-number (name_limits d) (name_counts d) (names_part d mem) n (omega arith))
 
-  pub same_name : (a : Answered) (m n : ℕ) → 4294967295 ≤ m → 4294967295 ≤ n → a ≡ reads (name_of m) d mem → a ≡ reads (name_of n) d mem
-  same_name a m n h k e = e ∙ no_name m h ∙ sym (no_name n k)
+  pub same-name : (a : Answered) (m n : ℕ) → 4294967295 ≤ m → 4294967295 ≤ n → a ≡ reads (name_of m) d mem → a ≡ reads (name_of n) d mem
+  same-name a m n h k e = e ∙ no_name m h ∙ sym (no_name n k)
 
   -- a name that is shown is that of the number's own parts
   pub own_name : (n : ℕ) (p : Name) → name_is (some p) ≡ reads (name_of n) d mem → name_is (some (pair n)) ≡ reads (name_of n) d mem

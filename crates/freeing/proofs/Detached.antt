@@ -22,7 +22,7 @@ use Rattle.model.specs.Kinds.{Which, same_which, which_of}
 use Rattle.model.specs.Doc.{Doc, change_nodes, change_arenas, change_current, generation_at, handle_at, live_slot, resolves, kind_in, kind_at, parent_in, parent_at, range_in, list_in, list_at}
 use Rattle.model.specs.Rules.{Shape, Rules, Entries, block_in}
 use Rattle.model.specs.Edits.{set_block, set_parent, unlink_from, unlink, unhook}
-use Rattle.laws.proofs.Basics.{mem-count, count-mem, live_below}
+use Rattle.laws.proofs.Basics.{mem-count, count-mem, live-below}
 use Rattle.walks.proofs.Walkable.{live_of, handle-of, same_index}
 use Rattle.memory.proofs.Written.{same_which-true, same_which-refl}
 use Rattle.edits.proofs.Unhooked.{unlinked-inside}
@@ -47,7 +47,7 @@ module _ (D : Doc) (R : Rules D) (shape : Shape D) (narrow : length D.gens ≤ 4
   -- ---- the parents
 
   top-none : get_or (set D.parents (handle_index h) none) (handle_index h) none ≡ none
-  top-none = get_or-set_same D.parents (handle_index h) none none (omega (arith, live_below D (handle_index h) lives, shape.parents))
+  top-none = get_or-set_same D.parents (handle_index h) none none (omega (arith, live-below D (handle_index h) lives, shape.parents))
 
   parent-other : (i : ℕ) → (i ≡ handle_index h → ⊥) → get_or (set D.parents (handle_index h) none) i none ≡ parent_in D i
   parent-other i ne = get_or-set_other D.parents (handle_index h) i none none ne
@@ -66,7 +66,7 @@ module _ (D : Doc) (R : Rules D) (shape : Shape D) (narrow : length D.gens ≤ 4
         one i p li e (no ne) =
             let f : parent_in D i ≡ some p = sym (parent-other i ne) ∙ e in
             let lp = live_of D p (R.parents.owner i p li f).0 in
-            let different : handle_at D i ≡ h → ⊥ = λ q. ne (sym (handle_index-word_of (record { index = i; generation = generation_at D i }) (omega (arith, live_below D i li))) ∙ ap handle_index q) in
+            let different : handle_at D i ≡ h → ⊥ = λ q. ne (sym (handle_index-word_of (record { index = i; generation = generation_at D i }) (omega (arith, live-below D i li))) ∙ ap handle_index q) in
             o.others (which_of (kind_in D i)) (handle_index p) (handle_at D i) lp different ∙ R.entries.one i p li f
 
         other : (w : Which) (i y : ℕ) → live_slot D i ≡ true → Memᴰ y (list_in E w i) → Dec (y ≡ h)
@@ -146,7 +146,7 @@ module _ (D : Doc) (R : Rules D) (shape : Shape D) (narrow : length D.gens ≤ 4
     after-here =
         let B = (removed (D.arenas v) (range_in D v j) h).block in
         let A = (removed (D.arenas v) (range_in D v j) h).arena in
-        ap (list_of A) (get_or-set_same (D.ranges v) j B (block 0 0) (omega (arith, live_below D j lj, shape.ranges v)) ∙ sym (at_same (block_in D v) j B j refl))
+        ap (list_of A) (get_or-set_same (D.ranges v) j B (block 0 0) (omega (arith, live-below D j lj, shape.ranges v)) ∙ sym (at_same (block_in D v) j B j refl))
         ∙ promise j
         ∙ at_same (λ (k : ℕ). list_of (D.arenas v) (block_in D v k)) j (without (eqb h) (list_in D v j)) j refl
 
@@ -164,7 +164,7 @@ module _ (D : Doc) (R : Rules D) (shape : Shape D) (narrow : length D.gens ≤ 4
     elsewhere w i li ne =
         absent w i (λ m.
         let q = R.entries.no_other w i h li m in
-        ne (sym q.2) (sym (handle_index-word_of (record { index = i; generation = generation_at D i }) (omega (arith, live_below D i li)))
+        ne (sym q.2) (sym (handle_index-word_of (record { index = i; generation = generation_at D i }) (omega (arith, live-below D i li)))
         ∙ ap handle_index (sym (some-injective p (handle_at D i) (sym e ∙ q.1)))))
 
     there-once : count_of (eqb h) (list_in D v j) ≡ 1
@@ -191,7 +191,7 @@ module _ (D : Doc) (R : Rules D) (shape : Shape D) (narrow : length D.gens ≤ 4
       gone = λ w i li. gone w i li (same_which w v) refl;
       others = λ w i y li n. others w i y li n (same_which w v) refl;
       inside = λ w i li.
-          unlinked-inside D R.blocks w i li (live_inside w i li) (omega (arith, live_below D i li, shape.ranges w)) v j h lj (omega (arith, live_below D j lj, shape.ranges w));
+          unlinked-inside D R.blocks w i li (live_inside w i li) (omega (arith, live-below D i li, shape.ranges w)) v j h lj (omega (arith, live-below D j lj, shape.ranges w));
     }
       where
         lists : Which → ℕ → Bool → List ℕ

@@ -19,7 +19,7 @@ use Rattle.model.specs.Kinds.{texts_of}
 use Rattle.model.specs.Doc.{Doc, generation_at, live_slot, resolves, kind_at}
 use Rattle.model.specs.Rules.{slots_held, held_in, held}
 use Rattle.laws.proofs.Wf.{Distinct}
-use Rattle.laws.proofs.Basics.{mem-count, live-even, live_below}
+use Rattle.laws.proofs.Basics.{mem-count, live-even, live-below}
 use Rattle.laws.proofs.Counting.{mem_index, get_d-below}
 use Rattle.laws.proofs.Freeing.{slots_held-append}
 use Rattle.laws.proofs.Membership.{mem-without-old, distinct_without, distinct_append, distinct-map, mem-map-cases, pigeonhole}
@@ -113,7 +113,7 @@ module _ (D : Doc) (F : Freeable D) (l : List ℕ) (once : (y : ℕ) → count_o
       omega (arith, F.slots, length-append slots D.free, length-map l handle_index)
     where
       below : (s : ℕ) → Memᴰ s slots ⊎ Memᴰ s D.free → s < length D.gens
-      below s (inl m) = live_below D s (slots-live s m)
+      below s (inl m) = live-below D s (slots-live s m)
       below s (inr m) = free-below s m
 
   -- ---- the texts
@@ -134,7 +134,7 @@ module _ (D : Doc) (F : Freeable D) (l : List ℕ) (once : (y : ℕ) → count_o
   text-held : (t : ℕ) → count_of (eqb t) texts ≤ count_of (eqb t) (held D)
   text-held t =
       let e = ap (count_of (eqb t)) (held-texts l live) in
-      omega (arith, counts-below (eqb t) (held_in D) (length D.gens) slots slots-once (λ s m. live_below D s (slots-live s m)))
+      omega (arith, counts-below (eqb t) (held_in D) (length D.gens) slots slots-once (λ s m. live-below D s (slots-live s m)))
 
   text-once : (t : ℕ) → count_of (eqb t) texts + count_of (eqb t) D.pool.free ≤ 1
   text-once t = go (dec_lt t (length D.pool.texts))
@@ -153,7 +153,7 @@ module _ (D : Doc) (F : Freeable D) (l : List ℕ) (once : (y : ℕ) → count_o
   pub all-freeable : AllFreeable D l
   all-freeable =
       record {
-        made = λ h m. live_below D (handle_index h) (live_of D h (live h m));
+        made = λ h m. live-below D (handle_index h) (live_of D h (live h m));
         generations = F.generations;
         room = free-room;
         texts = record {

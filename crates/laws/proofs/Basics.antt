@@ -137,8 +137,8 @@ module _ (d : Doc) (i : ℕ) where
       go (yes h) = h
       go (no h) = absurd (false≢true (sym (ap even (get_or-eq_default d.gens 1 (omega arith))) ∙ l))
 
-  pub live_below : live_slot d i ≡ true → i < length d.gens
-  live_below l = even-below (live-even l)
+  pub live-below : live_slot d i ≡ true → i < length d.gens
+  live-below l = even-below (live-even l)
 
 -- ---- births and handles
 
@@ -148,7 +148,7 @@ module _ (d : Doc) (t : Tree) (hs : ℕ → ℕ) (S : Sim d t hs) where
   even-live i e = and_both (even (generation_at d i)) (is_some (get_or d.kinds i none)) e (S.nodes i e)
 
   pub birth-below : (b : ℕ) → t.live b ≡ true → handle_index (hs b) < length d.gens
-  birth-below b lb = live_below d (handle_index (hs b)) (S.lives b lb)
+  birth-below b lb = live-below d (handle_index (hs b)) (S.lives b lb)
 
   pub handle-of-live : (b : ℕ) → t.live b ≡ true → handle_at d (handle_index (hs b)) ≡ hs b
   handle-of-live b lb = rw (S.gen b lb) (handle_word-halves (hs b))

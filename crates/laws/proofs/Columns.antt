@@ -15,8 +15,8 @@ use Rattle.laws.proofs.Basics.{update_same, update_other, same_which-refl, which
 
 -- ---- one list
 
-pub list_at : (f : Which → ℕ → List ℕ) (w : Which) (p : ℕ) (l : List ℕ) → update_which f w (update (f w) p l) w p ≡ l
-list_at f w p l = rw (same_which-refl w) (update_same (f w) p l)
+pub list-at : (f : Which → ℕ → List ℕ) (w : Which) (p : ℕ) (l : List ℕ) → update_which f w (update (f w) p l) w p ≡ l
+list-at f w p l = rw (same_which-refl w) (update_same (f w) p l)
 
 pub list_cases : (f : Which → ℕ → List ℕ) (w : Which) (p : ℕ) (l : List ℕ) (v : Which) (q : ℕ)
     → ((v ≡ w) × (q ≡ p)) ⊎ ((v ≡ w → q ≡ p → ⊥) × (update_which f w (update (f w) p l) v q ≡ f v q))

@@ -24,7 +24,7 @@ use Rattle.model.specs.Tree.{Tree, set_current}
 use Rattle.laws.proofs.Wf.{Distinct, WF}
 use Rattle.laws.proofs.Sim.{Sim}
 use Rattle.laws.proofs.Kept.{within-kept, free-kept, pool-kept}
-use Rattle.laws.proofs.Basics.{live_below, live-node}
+use Rattle.laws.proofs.Basics.{live-below, live-node}
 use Rattle.laws.proofs.SimEdits.{which-of-kind}
 use Rattle.laws.proofs.Freeing.{slots_of}
 use Rattle.laws.proofs.Subtree.{slot-of, birth-in, slots-once}
@@ -155,7 +155,7 @@ module _ {d : Doc} {t : Tree} {hs : ℕ → ℕ} (S : Sim d t hs) (W : WF t) whe
       (slots-distinct w) (λ i m v. v) (λ i m. below i (slots-live w i m).0) (omega (arith, room w)))
     where
       below : (i : ℕ) → live_slot d i ≡ true → i < length (d.ranges w)
-      below i l = omega (arith, live_below d i l, S.shape.ranges w)
+      below i l = omega (arith, live-below d i l, S.shape.ranges w)
 
   caps-after : (w : Which) → (laying d w).arena.caps ≡ replicate (length (d.arenas w).caps) 0
   caps-after w = ap (λ (a : Laying). a.arena.caps) (laying-is w) ∙ laid_all-caps (list_in d w) (laid_slots w) (laying_from d w)

@@ -133,8 +133,8 @@ module _ {d : Doc} {t : Tree} {hs : ℕ → ℕ} (S : Sim d t hs) (N : Nested t)
   abbrev texts : List (Option ℕ)
   texts = joined (λ h. texts_of (kind_at d h)) handles
 
-  text_of : (s : ℕ) → Memᴰ s (slots_held texts) → (x : ℕ) × Memᴰ x (freed t b) × Memᴰ s (fields d (hs x))
-  text_of s m = mem-joined-cases (λ x. fields d (hs x)) (freed t b) (subst (λ (l : List ℕ). Memᴰ s l) (slots_held-joined (λ h. texts_of (kind_at d h)) hs (freed t b)) m)
+  text-of : (s : ℕ) → Memᴰ s (slots_held texts) → (x : ℕ) × Memᴰ x (freed t b) × Memᴰ s (fields d (hs x))
+  text-of s m = mem-joined-cases (λ x. fields d (hs x)) (freed t b) (subst (λ (l : List ℕ). Memᴰ s l) (slots_held-joined (λ h. texts_of (kind_at d h)) hs (freed t b)) m)
 
   of-text : (s x : ℕ) → Memᴰ x (freed t b) → Memᴰ s (fields d (hs x)) → Memᴰ s (slots_held texts)
   of-text s x mx m = subst (λ (l : List ℕ). Memᴰ s l) (sym (slots_held-joined (λ h. texts_of (kind_at d h)) hs (freed t b))) (mem-joined (λ x. fields d (hs x)) (freed t b) mx m)
@@ -148,7 +148,7 @@ module _ {d : Doc} {t : Tree} {hs : ℕ → ℕ} (S : Sim d t hs) (N : Nested t)
   -- a text of a node that stays is not released
   other_text : (x s : ℕ) → stays_live x ≡ true → Memᴰ s (fields d (hs x)) → Memᴰ s (slots_held texts) → ⊥
   other_text x s e m q =
-      let o = text_of s q in
+      let o = text-of s q in
       not-both o.0 o.1 (subst (λ (z : ℕ). stays_live z ≡ true) (S.pool.single x o.0 s (stays x e).0 (freed-live o.0 o.1) m o.2) e)
 
   pool-after : Pooled (free_all d handles) (gone t b) hs
@@ -160,7 +160,7 @@ module _ {d : Doc} {t : Tree} {hs : ℕ → ℕ} (S : Sim d t hs) (N : Nested t)
         single = λ x y s lx ly. S.pool.single x y s (stays x lx).0 (stays y ly).0;
         free_inside = λ s m. free-inside s (released_all-cases texts d.pool s m);
         free_once = released_all-once texts d.pool S.pool.free_once texts-once
-            (λ s m n. let o = text_of s m in S.pool.free_apart o.0 s (freed-live o.0 o.1) o.2 n);
+            (λ s m n. let o = text-of s m in S.pool.free_apart o.0 s (freed-live o.0 o.1) o.2 n);
         free_apart = λ x s lx m f. free-apart x s lx m (released_all-cases texts d.pool s f);
         covered = λ s lt. covered s (S.pool.covered s (subst (λ (n : ℕ). s < n) (length-released_all texts d.pool) lt));
       }
@@ -171,7 +171,7 @@ module _ {d : Doc} {t : Tree} {hs : ℕ → ℕ} (S : Sim d t hs) (N : Nested t)
           let o = S.pool.free_inside s m in
           (rw (length-released_all texts d.pool) o.0, released_all-empty texts d.pool s (inr o.1))
       free-inside s (inr m) =
-          let o = text_of s m in
+          let o = text-of s m in
           (rw (length-released_all texts d.pool) (S.pool.inside o.0 s (freed-live o.0 o.1) o.2), released_all-empty texts d.pool s (inl m))
 
       free-apart : (x s : ℕ) → stays_live x ≡ true → Memᴰ s (fields d (hs x)) → Memᴰ s d.pool.free ⊎ Memᴰ s (slots_held texts) → ⊥

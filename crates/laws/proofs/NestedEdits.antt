@@ -16,7 +16,7 @@ use Rattle.model.specs.Tree.{Tree, update, set_list, set_parent, born, attach}
 use Rattle.laws.proofs.Wf.{Distinct, Ends, Clear}
 use Rattle.laws.proofs.Nested.{Nested}
 use Rattle.laws.proofs.Basics.{update_same, update_other}
-use Rattle.laws.proofs.Columns.{list_at, list_cases, clear-ends, clear-update, ends-update}
+use Rattle.laws.proofs.Columns.{list-at, list_cases, clear-ends, clear-update, ends-update}
 use Rattle.laws.proofs.Membership.{mem-insert_at, mem-insert_at-old, mem-insert_at-cases, distinct-insert_at}
 
 -- no element stands under the Root
@@ -141,7 +141,7 @@ module _ {t : Tree} (N : Nested t) where
 
           go : ((v ≡ w) × (q ≡ p)) ⊎ ((v ≡ w → q ≡ p → ⊥) × (ls v q ≡ t.lists v q)) → ((v ≡ w) × (q ≡ p) × (x ≡ b)) ⊎ Memᴰ x (t.lists v q)
           go (inl e) =
-              let m' : Memᴰ x l = subst (λ (k : List ℕ). Memᴰ x k) (ap₂ ls e.0 e.1 ∙ list_at t.lists w p l) m in
+              let m' : Memᴰ x l = subst (λ (k : List ℕ). Memᴰ x k) (ap₂ ls e.0 e.1 ∙ list-at t.lists w p l) m in
               new e.0 e.1 (mem-insert_at-cases i b (t.lists w p) m')
           go (inr e) = inr (subst (λ (k : List ℕ). Memᴰ x k) e.1 m)
 
@@ -150,7 +150,7 @@ module _ {t : Tree} (N : Nested t) where
         where
           go : ((v ≡ w) × (q ≡ p)) ⊎ ((v ≡ w → q ≡ p → ⊥) × (ls v q ≡ t.lists v q)) → Memᴰ x (ls v q)
           go (inl e) =
-              subst (λ (k : List ℕ). Memᴰ x k) (sym (ap₂ ls e.0 e.1 ∙ list_at t.lists w p l))
+              subst (λ (k : List ℕ). Memᴰ x k) (sym (ap₂ ls e.0 e.1 ∙ list-at t.lists w p l))
               (mem-insert_at-old i b (t.lists w p) (subst (λ (k : List ℕ). Memᴰ x k) (ap₂ t.lists e.0 e.1) m))
           go (inr e) = subst (λ (k : List ℕ). Memᴰ x k) (sym e.1) m
 
@@ -160,7 +160,7 @@ module _ {t : Tree} (N : Nested t) where
           rw (e, update_same t.parent b (some p))
           (λ g.
           let pq : p ≡ q = some-injective p q g in
-          (rw (← pq) lp, rw (← pq, wb) fp, rw (← pq, wb) (subst (λ (k : List ℕ). Memᴰ b k) (sym (list_at t.lists w p l)) (mem-insert_at i b (t.lists w p)))))
+          (rw (← pq) lp, rw (← pq, wb) fp, rw (← pq, wb) (subst (λ (k : List ℕ). Memᴰ b k) (sym (list-at t.lists w p l)) (mem-insert_at i b (t.lists w p)))))
       upward x q lx (no n) =
           rw (update_other t.parent b (some p) x n) (λ g. let u = N.upward x q lx g in (u.0, u.1, keep (which_of (t.kind x)) q x u.2))
 
@@ -176,7 +176,7 @@ module _ {t : Tree} (N : Nested t) where
         where
           go : ((v ≡ w) × (q ≡ p)) ⊎ ((v ≡ w → q ≡ p → ⊥) × (ls v q ≡ t.lists v q)) → Distinct (ls v q)
           go (inl e) =
-              subst Distinct (sym (ap₂ ls e.0 e.1 ∙ list_at t.lists w p l)) (distinct-insert_at i b (t.lists w p) (nowhere w p lp) (N.once w p lp))
+              subst Distinct (sym (ap₂ ls e.0 e.1 ∙ list-at t.lists w p l)) (distinct-insert_at i b (t.lists w p) (nowhere w p lp) (N.once w p lp))
           go (inr e) = subst Distinct (sym e.1) (N.once v q lq)
 
       below-p : Ends (update t.parent b (some p)) b

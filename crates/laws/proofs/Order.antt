@@ -51,13 +51,13 @@ joined-births hs f g (x ∷ l) h =
 abbrev with_own : (Which → ℕ → List ℕ) → ℕ → List ℕ
 with_own ls x = x ∷ (ls namespaces x ++ ls attributes x)
 
-in_order : (ls : Which → ℕ → List ℕ) (f x : ℕ) → joined (with_own ls) (visit (ls children) f x) ≡ in_order f ls x
-in_order ls zero x = refl
-in_order ls (suc f) x =
+in-order : (ls : Which → ℕ → List ℕ) (f x : ℕ) → joined (with_own ls) (visit (ls children) f x) ≡ in_order f ls x
+in-order ls zero x = refl
+in-order ls (suc f) x =
     ap (λ (l : List ℕ). x ∷ l)
     (ap (λ (l : List ℕ). (ls namespaces x ++ ls attributes x) ++ l)
     (joined-joined (with_own ls) (λ y. visit (ls children) f y) (ls children x)
-    ∙ joined_same (λ y. joined (with_own ls) (visit (ls children) f y)) (λ y. in_order f ls y) (ls children x) (λ y. in_order ls f y))
+    ∙ joined_same (λ y. joined (with_own ls) (visit (ls children) f y)) (λ y. in_order f ls y) (ls children x) (λ y. in-order ls f y))
     ∙ append_assoc (ls namespaces x) (ls attributes x) (joined (λ y. in_order f ls y) (ls children x)))
 
 module _ {t : Tree} (N : Nested t) where
@@ -158,10 +158,10 @@ module _ {t : Tree} (N : Nested t) where
   order = in_order t.births t.lists 0
 
   pub order-once : Distinct order
-  order-once = subst Distinct (in_order t.lists t.births 0) entries-once
+  order-once = subst Distinct (in-order t.lists t.births 0) entries-once
 
   pub order-live : (y : ℕ) → Memᴰ y order → t.live y ≡ true
-  order-live y m = entries-live y (subst (λ (l : List ℕ). Memᴰ y l) (sym (in_order t.lists t.births 0)) m)
+  order-live y m = entries-live y (subst (λ (l : List ℕ). Memᴰ y l) (sym (in-order t.lists t.births 0)) m)
 
 -- ---- the words
 
@@ -176,7 +176,7 @@ module _ {d : Doc} {t : Tree} {hs : ℕ → ℕ} (S : Sim d t hs) (N : Nested t)
       let lx = document-live N x m in
       ap (λ (l : List ℕ). hs x ∷ l)
       (ap₂ ◌++◌ (S.lists namespaces x lx) (S.lists attributes x lx) ∙ sym (map-append hs (t.lists namespaces x) (t.lists attributes x))))
-      ∙ ap (map hs) (in_order t.lists t.births 0)
+      ∙ ap (map hs) (in-order t.lists t.births 0)
 
   -- the words before any key is laid
   blank : List ℕ

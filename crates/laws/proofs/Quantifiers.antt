@@ -9,7 +9,7 @@ use Rattle.words.proofs.Tests.{and_left, and_right}
 use Rattle.model.specs.Kinds.{Which, children, attributes, namespaces}
 use Rattle.model.specs.Doc.{Doc, live_slot}
 use Rattle.model.specs.RulesTest.{implies, all_which, all_slots, all_live}
-use Rattle.laws.proofs.Basics.{live_below}
+use Rattle.laws.proofs.Basics.{live-below}
 
 pub implies_true : (a b : Bool) → implies a b ≡ true → a ≡ true → b ≡ true
 implies_true true b h e = h
@@ -33,9 +33,9 @@ at-which p h = rw (h children, h attributes, h namespaces)
 
 -- each slot made, and each that is live
 
-pub slots_at : (d : Doc) (p : ℕ → Bool) → all_slots d p ≡ true → (i : ℕ) → i < length d.gens → p i ≡ true
+pub slots-at : (d : Doc) (p : ℕ → Bool) → all_slots d p ≡ true → (i : ℕ) → i < length d.gens → p i ≡ true
 unfolding all_slots
-slots_at d p h = all_below-at p (length d.gens) h
+slots-at d p h = all_below-at p (length d.gens) h
 
 pub at_slots : (d : Doc) (p : ℕ → Bool) → ((i : ℕ) → i < length d.gens → p i ≡ true) → all_slots d p ≡ true
 unfolding all_slots
@@ -44,7 +44,7 @@ at_slots d p h = at-all_below p (length d.gens) h
 pub live_at : (d : Doc) (p : ℕ → Bool) → all_live d p ≡ true → (i : ℕ) → live_slot d i ≡ true → p i ≡ true
 unfolding all_live
 live_at d p h i l =
-    implies_true (live_slot d i) (p i) (all_below-at (λ i. implies (live_slot d i) (p i)) (length d.gens) h i (live_below d i l)) l
+    implies_true (live_slot d i) (p i) (all_below-at (λ i. implies (live_slot d i) (p i)) (length d.gens) h i (live-below d i l)) l
 
 pub at-live : (d : Doc) (p : ℕ → Bool) → ((i : ℕ) → live_slot d i ≡ true → p i ≡ true) → all_live d p ≡ true
 unfolding all_live

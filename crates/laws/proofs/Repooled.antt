@@ -125,9 +125,9 @@ repooled-then p q r old mid new A B =
 -- a text that takes a new slot
 module _ (p : Pool) (b : ℕ) (t : List ℕ) (l : List ℕ) (F : FreeOnce p) (H : Holds p l) where
   -- the slot taken stands after those held
-  one_more : (p' : Pool) (x : ℕ) → (Memᴰ x l → ⊥) → x < length p'.texts → (Memᴰ x p'.free → ⊥) → length p.texts ≤ length p'.texts
+  one-more : (p' : Pool) (x : ℕ) → (Memᴰ x l → ⊥) → x < length p'.texts → (Memᴰ x p'.free → ⊥) → length p.texts ≤ length p'.texts
       → ((s : ℕ) → Memᴰ s p'.free → Memᴰ s p.free) → Holds p' (l ++ (x ∷ []))
-  one_more p' x fresh lt nf grow old =
+  one-more p' x fresh lt nf grow old =
       record {
         inside = λ s m. inside s (Memᴰ.append_cases l m);
         not_free = λ s m. not_free s (Memᴰ.append_cases l m);
@@ -165,7 +165,7 @@ module _ (p : Pool) (b : ℕ) (t : List ℕ) (l : List ℕ) (F : FreeOnce p) (H 
   new-slot : p.free ≡ [] → Repooled p (record { texts = p.texts ++ ((b ∷ t) ∷ []); free = [] }) l (l ++ (length p.texts ∷ [])) none
   new-slot e =
       record {
-        holds = one_more p' x (λ m. absurd (omega (arith, H.inside x m))) (omega (arith, size)) none_free (omega (arith, size)) (λ s m. absurd (Memᴰ.not-nil m));
+        holds = one-more p' x (λ m. absurd (omega (arith, H.inside x m))) (omega (arith, size)) none_free (omega (arith, size)) (λ s m. absurd (Memᴰ.not-nil m));
         free = record { inside = λ s m. absurd (Memᴰ.not-nil m); empty = λ s m. absurd (Memᴰ.not-nil m); once = tt };
         grows = omega (arith, size);
         origin = one-origin x (inr (omega arith));
@@ -196,7 +196,7 @@ module _ (p : Pool) (b : ℕ) (t : List ℕ) (l : List ℕ) (F : FreeOnce p) (H 
   used-slot : (x : ℕ) (f : List ℕ) → p.free ≡ x ∷ f → Repooled p (record { texts = set p.texts x (b ∷ t); free = f }) l (l ++ (x ∷ [])) none
   used-slot x f e =
       record {
-        holds = one_more p' x (λ m. H.not_free x m here) (simp length-set (F.inside x here)) once.0 (simp length-set (omega arith)) old;
+        holds = one-more p' x (λ m. H.not_free x m here) (simp length-set (F.inside x here)) once.0 (simp length-set (omega arith)) old;
         free = record {
           inside = λ s m. simp length-set (F.inside s (old s m));
           empty = λ s m. get_or-set_other p.texts x s (b ∷ t) [] (λ q. once.0 (subst (λ (z : ℕ). Memᴰ z f) q m)) ∙ F.empty s (old s m);

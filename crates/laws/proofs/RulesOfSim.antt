@@ -20,7 +20,7 @@ use Rattle.model.specs.Rules.{CountsAndFields, FreeList, Parents, Entries, Ends,
 use Rattle.laws.proofs.Wf.{Distinct, WF}
 use Rattle.laws.proofs.Wf as wf
 use Rattle.laws.proofs.Sim.{Sim, fields}
-use Rattle.laws.proofs.Basics.{live-node, live_below, resolves-live, handle-of-live, hs-injective, count-mem}
+use Rattle.laws.proofs.Basics.{live-node, live-below, resolves-live, handle-of-live, hs-injective, count-mem}
 use Rattle.laws.proofs.Shown.{which_of-map, is_element-map, is_root-map, owns-map}
 use Rattle.laws.proofs.Membership.{mem-map, mem-map-cases, mem-joined, mem-joined-cases, distinct-map, distinct-joined}
 use Rattle.laws.proofs.Counting.{mem-get_d, get_d-below, count-absent, count-once, count-unique, below, below-mem, below-distinct}
@@ -61,13 +61,13 @@ module _ (d : Doc) (t : Tree) (hs : ℕ → ℕ) (S : Sim d t hs) (W : WF t) whe
 
   -- ---- 1 and 2
 
-  root_live : live_slot d 0 ≡ true
-  root_live = subst (λ (i : ℕ). live_slot d i ≡ true) root-slot (S.lives 0 S.root_live)
+  root-live : live_slot d 0 ≡ true
+  root-live = subst (λ (i : ℕ). live_slot d i ≡ true) root-slot (S.lives 0 S.root_live)
 
   root-kind : get_or d.kinds 0 none ≡ some root
   root-kind =
       let e : is_root (kind_in d 0) ≡ true = ap (λ (i : ℕ). is_root (kind_in d i)) (sym root-slot) ∙ root-same 0 S.root_live ∙ ap is_root W.root_kind in
-      live-node d 0 root_live ∙ ap some (is_root-root (kind_in d 0) e)
+      live-node d 0 root-live ∙ ap some (is_root-root (kind_in d 0) e)
 
   fields-of-sim : CountsAndFields d
   fields-of-sim = record {
@@ -212,7 +212,7 @@ module _ (d : Doc) (t : Tree) (hs : ℕ → ℕ) (S : Sim d t hs) (W : WF t) whe
   mem-held : (s b : ℕ) → t.live b ≡ true → Memᴰ s (fields d (hs b)) → Memᴰ s (held d)
   mem-held s b lb m =
       mem-joined (held_in d) (below (length d.gens))
-      (below-mem (length d.gens) (handle_index (hs b)) (live_below d (handle_index (hs b)) (S.lives b lb)))
+      (below-mem (length d.gens) (handle_index (hs b)) (live-below d (handle_index (hs b)) (S.lives b lb)))
       (subst (λ (l : List ℕ). Memᴰ s l) (sym (held_of b lb)) m)
 
   held-distinct : Distinct (held d)

@@ -19,8 +19,8 @@ use Rattle.model.specs.Kinds.{Which}
 use Rattle.model.specs.Doc.{Doc, live_slot, range_in}
 use Rattle.model.specs.Rules.{Shape, block_in, Blocks}
 use Rattle.model.specs.RulesTest.{all_slots, block_inside, blocks_apart, arena_holds, blocks_hold}
-use Rattle.laws.proofs.Basics.{live_below}
-use Rattle.laws.proofs.Quantifiers.{which-at, at-which, slots_at, at_slots}
+use Rattle.laws.proofs.Basics.{live-below}
+use Rattle.laws.proofs.Quantifiers.{which-at, at-which, slots-at, at_slots}
 
 -- ---- two blocks
 
@@ -70,7 +70,7 @@ module _ (d : Doc) (w : Which) where
   no-block i h = go (live_slot d i) refl
     where
       go : (q : Bool) → live_slot d i ≡ q → cond q (range_in d w i) (block 0 0) ≡ block 0 0
-      go true l = absurd (let k = live_below d i l in omega arith)
+      go true l = absurd (let k = live-below d i l in omega arith)
       go false l = refl
 
   blocks-of-arena : Shape d → arena_holds d w ≡ true → BlocksApart (d.arenas w) (block_in d w)
@@ -92,7 +92,7 @@ module _ (d : Doc) (w : Which) where
 
       inside : (i : ℕ) → Dec (i < length d.gens) → Inside (d.arenas w) (block_in d w i)
       inside i (yes b) =
-          record { below = leb-true ((block_in d w i).start + cap_of (d.arenas w) (block_in d w i)) (d.arenas w).used (slots_at d inside_at all-inside i b) }
+          record { below = leb-true ((block_in d w i).start + cap_of (d.arenas w) (block_in d w i)) (d.arenas w).used (slots-at d inside_at all-inside i b) }
       inside i (no b) = subst (Inside (d.arenas w)) (sym (no-block i (omega arith))) (record { below = omega arith })
 
       -- the lower of two slots is met while the higher is tested
@@ -100,7 +100,7 @@ module _ (d : Doc) (w : Which) where
       ordered i j l (yes b) =
           apart-of-test (d.arenas w) (block_in d w i) (block_in d w j)
           (all_below-at (apart_from i) i
-          (slots_at d (λ i. all_below (apart_from i) i) all_apart i b) j l)
+          (slots-at d (λ i. all_below (apart_from i) i) all_apart i b) j l)
       ordered i j l (no b) = empty_left (ap (λ (x : Block). x.len) (no-block i (omega arith)))
 
       apart : (i j : ℕ) → (i ≡ j → ⊥) → Dec (i < j) → Apart (d.arenas w) (block_in d w i) (block_in d w j)

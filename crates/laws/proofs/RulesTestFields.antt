@@ -20,7 +20,7 @@ use Rattle.model.specs.RulesTest.{implies, fits_field, counts_within, words_with
 use Rattle.laws.proofs.Basics.{even-below}
 use Rattle.laws.proofs.RulesOfSim.{is_root-root}
 use Rattle.laws.proofs.Counting.{mem-get_d, mem_index, all-mem, mem-all}
-use Rattle.laws.proofs.Quantifiers.{implies_true, true_implies, which-at, at-which, slots_at, at_slots, live_at, at-live}
+use Rattle.laws.proofs.Quantifiers.{implies_true, true_implies, which-at, at-which, slots-at, at_slots, live_at, at-live}
 
 -- ---- 1
 
@@ -44,11 +44,11 @@ fields-of-test d h = record {
   text_bytes = leb-true (length (bytes_of d.pool.texts)) d.limits.text_bytes (search (and_left, and_right) depth 8);
   names = leb-true (length d.names) d.limits.names (search (and_left, and_right) depth 8);
   name_bytes = leb-true (length (joined entry_bytes d.names)) d.limits.name_bytes (search (and_left, and_right) depth 8);
-  generations = λ i b. ltb-true (get_or d.gens i 0) 4294967296 (slots_at d (λ i. fits_field (get_or d.gens i 0)) (search (and_left, and_right) depth 8) i b);
+  generations = λ i b. ltb-true (get_or d.gens i 0) 4294967296 (slots-at d (λ i. fits_field (get_or d.gens i 0)) (search (and_left, and_right) depth 8) i b);
   nodes = λ i e.
       implies_true (even (generation_at d i)) (is_some (get_or d.kinds i none))
-      (slots_at d (λ i. implies (even (generation_at d i)) (is_some (get_or d.kinds i none))) (search (and_left, and_right) depth 8) i (even-below d i e)) e;
-  order_words = λ i b. ltb-true (get_or d.order i 0) 4294967296 (slots_at d (λ i. fits_field (get_or d.order i 0)) (search (and_left, and_right) depth 8) i b);
+      (slots-at d (λ i. implies (even (generation_at d i)) (is_some (get_or d.kinds i none))) (search (and_left, and_right) depth 8) i (even-below d i e)) e;
+  order_words = λ i b. ltb-true (get_or d.order i 0) 4294967296 (slots-at d (λ i. fits_field (get_or d.order i 0)) (search (and_left, and_right) depth 8) i b);
   capacities = λ w i b.
       ltb-true (get_or (d.arenas w).caps i 0) 4294967296
       (all_below-at (capacity_fits d w) (d.arenas w).used
@@ -111,7 +111,7 @@ free-list-of-test d h = record {
       (all-mem (λ s. ltb s (length d.gens)) d.free (search and_left) (get_or d.free i 0) (mem-get_d d.free i 0 b));
   once = λ s b.
       eqb-true (count_of (eqb s) d.free) (get_or d.gens s 0 % 2)
-      (slots_at d (λ s. eqb (count_of (eqb s) d.free) (get_or d.gens s 0 % 2)) (search (and_left, and_right)) s b);
+      (slots-at d (λ s. eqb (count_of (eqb s) d.free) (get_or d.gens s 0 % 2)) (search (and_left, and_right)) s b);
 }
 
 pub test-of-free-list : (d : Doc) → FreeList d → free_list_holds d ≡ true

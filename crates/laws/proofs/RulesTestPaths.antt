@@ -17,7 +17,7 @@ use Rattle.model.specs.Doc.{Doc, generation_at, live_slot, parent_in, map_option
 use Rattle.model.specs.Rules.{Parents, Ends, ParentsEnd}
 use Rattle.model.specs.RulesTest.{all_option, ends_within, parents_end_holds}
 use Rattle.laws.proofs.Wf as wf
-use Rattle.laws.proofs.Basics.{live_below}
+use Rattle.laws.proofs.Basics.{live-below}
 use Rattle.laws.proofs.Membership.{pigeonhole}
 use Rattle.laws.proofs.Climb.{path, steps, length-path, path-distinct}
 use Rattle.laws.proofs.Quantifiers.{live_at, at-live}
@@ -92,5 +92,5 @@ module _ (d : Doc) where
       where
         short : (i : ℕ) → live_slot d i ≡ true → (r : wf.Ends parent_slot i) → steps r ≤ length d.gens
         short i l r =
-            let h = pigeonhole (length d.gens) (path r) (path-distinct r) (λ j m. live_below d j (path-live r l j m)) in
+            let h = pigeonhole (length d.gens) (path r) (path-distinct r) (λ j m. live-below d j (path-live r l j m)) in
             omega (arith, length-path r)

@@ -88,8 +88,8 @@ module _ (d : Doc) (t : Tree) (hs : ℕ → ℕ) (S : Sim d t hs) where
       range-here : get_or (set (d.ranges w) x e.block) x (block 0 0) ≡ e.block
       range-here = get_or-set_same (d.ranges w) x e.block (block 0 0) in-range
 
-      range_other : (i : ℕ) → i ≢ x → get_or (set (d.ranges w) x e.block) i (block 0 0) ≡ range_in d w i
-      range_other i n = get_or-set_other (d.ranges w) x i e.block (block 0 0) n
+      range-other : (i : ℕ) → i ≢ x → get_or (set (d.ranges w) x e.block) i (block 0 0) ≡ range_in d w i
+      range-other i n = get_or-set_other (d.ranges w) x i e.block (block 0 0) n
 
       ranges : (v : Which) → (v ≡ w) ⊎ (same_which v w ≡ false) → length (d'.ranges v) ≡ length d.gens
       ranges v (inl q) = rw (q, same_which-refl w) (length-set (d.ranges w) x e.block ∙ S.shape.ranges w)
@@ -114,7 +114,7 @@ module _ (d : Doc) (t : Tree) (hs : ℕ → ℕ) (S : Sim d t hs) where
               let same : kind_at d (hs p) ≡ k =
               some-injective (kind_at d (hs p)) k (sym (live-node d x (S.lives p lp)) ∙ ap (λ (j : ℕ). get_or d.kinds j none) (sym f) ∙ q) in
               absurd (true≢false (sym (range-of-kind w p lp ∙ has) ∙ ap (has_range w) same ∙ ap (λ (u : Which). has_range u k) (sym r) ∙ h))
-          go (no n) = range_other i n ∙ S.shape.unused w i k q (ap (λ (u : Which). has_range u k) (sym r) ∙ h)
+          go (no n) = range-other i n ∙ S.shape.unused w i k q (ap (λ (u : Which). has_range u k) (sym r) ∙ h)
 
       caps_fit : (v : Which) (i : ℕ) → (v ≡ w) ⊎ (same_which v w ≡ false) → get_or (d'.arenas v).caps i 0 < 4294967296
       caps_fit v i (inl q) = rw (q, same_which-refl w) (fits i)
@@ -130,7 +130,7 @@ module _ (d : Doc) (t : Tree) (hs : ℕ → ℕ) (S : Sim d t hs) where
           same i (yes f) = at_same (block_in d w) x e.block i f ∙ rw (f, same_which-refl w, S.lives p lp) (sym range-here)
           same i (no n) =
               at_other (block_in d w) x e.block i n
-              ∙ rw (same_which-refl w) (ap (λ (r : Block). cond (live_slot d i) r (block 0 0)) (sym (range_other i n)))
+              ∙ rw (same_which-refl w) (ap (λ (r : Block). cond (live_slot d i) r (block 0 0)) (sym (range-other i n)))
 
       lists : (v : Which) (b : ℕ) → t.live b ≡ true → (v ≡ w) ⊎ (same_which v w ≡ false)
           → list_at d' v (hs b) ≡ map hs (update_which t.lists w (update (t.lists w) p l) v b)
@@ -146,7 +146,7 @@ module _ (d : Doc) (t : Tree) (hs : ℕ → ℕ) (S : Sim d t hs) where
           go (no n) =
               let y : ℕ = handle_index (hs b) in
               let m : y ≢ x = λ f. n (S.inj b p lb lp f) in
-              rw (update_other (t.lists w) p l b n, range_other y m)
+              rw (update_other (t.lists w) p l b n, range-other y m)
               (ap (list_of e.arena) (sym (block-of-live w b lb) ∙ sym (at_other (block_in d w) x e.block y m))
               ∙ E.lists y
               ∙ at_other (λ (k : ℕ). list_of (d.arenas w) (block_in d w k)) x (map hs l) y m

@@ -26,7 +26,7 @@ use Rattle.model.specs.Tree as tree
 use Rattle.laws.specs.Claim.{no_step, handle_told_from, tree_after}
 use Rattle.laws.proofs.Wf.{WF}
 use Rattle.laws.proofs.Sim.{Sim}
-use Rattle.laws.proofs.Basics.{by-handle, means-live, live_below, odd-not-live, get_d-snoc-other, update_other}
+use Rattle.laws.proofs.Basics.{by-handle, means-live, live-below, odd-not-live, get_d-snoc-other, update_other}
 use Rattle.laws.proofs.Stores.{Stores, stores-element, stores-text, stores-comment, stores-instruction}
 use Rattle.laws.proofs.SimAppended.{sim-appended}
 use Rattle.laws.proofs.NestedEdits.{NoRootElement}

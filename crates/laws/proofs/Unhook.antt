@@ -15,7 +15,7 @@ use Rattle.model.specs.Tree.{Tree, update, set_list, set_parent, unlink_from, un
 use Rattle.laws.proofs.Wf.{Distinct, Ends}
 use Rattle.laws.proofs.Nested.{Nested}
 use Rattle.laws.proofs.Basics.{update_same, update_other}
-use Rattle.laws.proofs.Columns.{list_at, list_cases, ends-update}
+use Rattle.laws.proofs.Columns.{list-at, list_cases, ends-update}
 use Rattle.laws.proofs.Membership.{mem-without, mem-without-old, distinct_without}
 
 -- unlinking changes nothing but the lists
@@ -78,7 +78,7 @@ module _ {t : Tree} (N : Nested t) where
               → Distinct (ls v q) × ((x : ℕ) → Memᴰ x (ls v q) → Memᴰ x (t.lists v q) × (x ≢ b))
               × ((x : ℕ) → x ≢ b → Memᴰ x (t.lists v q) → Memᴰ x (ls v q))
           part (inl f) =
-              rw (f.0, f.1, list_at t.lists w p l)
+              rw (f.0, f.1, list-at t.lists w p l)
               (let lp : t.live p ≡ true = rw (← f.1) lq in
               let u = distinct_without b (t.lists w p) (N.once w p lp) in
               (u.0, (λ x m. (mem-without-old b (t.lists w p) m, λ g. u.1 (subst (λ (k : ℕ). Memᴰ k l) g m))), λ x n m. mem-without b (t.lists w p) n m))

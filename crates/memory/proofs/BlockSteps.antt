@@ -35,7 +35,7 @@ use Rattle.memory.specs.Decode.{kind_of, block_of, kind_loaded, range_loaded, lo
 use Rattle.memory.specs.Writing.{put_arena, put_range}
 use Rattle.memory.specs.Entries.{BlockHeld, insertion, removal, range_from, put_block}
 use Rattle.layout.proofs.Sizes.{sizes}
-use Rattle.memory.proofs.Columns.{live_made, live_in, range-in, kind-found}
+use Rattle.memory.proofs.Columns.{live_made, live-in, range-in, kind-found}
 use Rattle.memory.proofs.Shaped.{length-arena_part}
 use Rattle.memory.proofs.Written.{length-put_arena}
 
@@ -49,8 +49,8 @@ module _ (d : Document) (mem : List ℕ) (w : Which) (s : ℕ) (h : BlockHeld d 
   pub slot-in : s < d.limits.nodes
   slot-in = omega (arith, slot-made)
 
-  pub block_in : range_in (decode d mem) w s ≡ range_loaded w (loaded_at d.limits.nodes (slots_part d mem) s)
-  block_in = range-in (pool_in d mem) (names_in d mem) (lengths_add d mem) d mem s slot-made w
+  pub block-in : range_in (decode d mem) w s ≡ range_loaded w (loaded_at d.limits.nodes (slots_part d mem) s)
+  block-in = range-in (pool_in d mem) (names_in d mem) (lengths_add d mem) d mem s slot-made w
 
   -- the owner, a node that has such a block
   pub record Owner : Type 0 where
@@ -64,7 +64,7 @@ module _ (d : Document) (mem : List ℕ) (w : Which) (s : ℕ) (h : BlockHeld d 
       some-kind : is_some (kind_loaded L) ≡ true
       some-kind =
           and_right (even (generation_at d.limits.nodes (slots_part d mem) s)) (is_some (kind_loaded L))
-          (sym (live_in (pool_in d mem) (names_in d mem) (lengths_add d mem) d mem s slot-made) ∙ h.live)
+          (sym (live-in (pool_in d mem) (names_in d mem) (lengths_add d mem) d mem s slot-made) ∙ h.live)
 
       go : (l : Loaded) → L ≡ l → Owner
       go (Found m) e = record {
@@ -78,7 +78,7 @@ module _ (d : Document) (mem : List ℕ) (w : Which) (s : ℕ) (h : BlockHeld d 
   -- ---- what the block editor asks, for the block as the code has it
   module _ (b : Range) (eb : block_of b ≡ range_loaded w (loaded_at d.limits.nodes (slots_part d mem) s)) where
     block-is : range_in (decode d mem) w s ≡ block_of b
-    block-is = block_in ∙ sym eb
+    block-is = block-in ∙ sym eb
 
     pub block_held : Held (arena_part d w mem) (entries_of d.limits w) (arena_used d w) b.start b.len
     block_held = record { twice = length-arena_part d mem h.memory w; fits = omega arith; inside = below }
@@ -108,8 +108,8 @@ module _ (d : Document) (mem : List ℕ) (w : Which) (s : ℕ) (h : BlockHeld d 
 
     -- ---- an insertion for which there is room
     module _ (room : has_room ((decode d mem).arenas w) (range_in (decode d mem) w s) ≡ true) (k id : ℕ) where
-      has_room : has_room A (block_of b) ≡ true
-      has_room = rw block-is at room
+      has-room : has_room A (block_of b) ≡ true
+      has-room = rw block-is at room
 
       insertion-is : insertion d mem w s k id ≡ inserted A (block_of b) k id
       unfolding insertion
@@ -133,7 +133,7 @@ module _ (d : Document) (mem : List ℕ) (w : Which) (s : ℕ) (h : BlockHeld d 
       module _ (r : Inserted) (e : r ≡ insert_answer (arena_in d w mem) (block_of b) k id) where
         pub landed : (start len used index : ℕ) → r ≡ At start len used index → Landed start len used
         landed start len used index q =
-            let a = answer-room (arena_part d w mem) A (block_of b) k id has_room in
+            let a = answer-room (arena_part d w mem) A (block_of b) k id has-room in
             let es : start ≡ (inserted A (block_of b) k id).block.start = cc in
             let el : len ≡ (inserted A (block_of b) k id).block.len = cc in
             let eu : used ≡ (inserted A (block_of b) k id).arena.used = cc in
@@ -147,7 +147,7 @@ module _ (d : Document) (mem : List ℕ) (w : Which) (s : ℕ) (h : BlockHeld d 
 
         pub not_full : r ≡ Full → ⊥
         not_full q =
-            let a = answer-room (arena_part d w mem) A (block_of b) k id has_room in
+            let a = answer-room (arena_part d w mem) A (block_of b) k id has-room in
             let z : ◌≡◌ {A = ℕ} 0 1 = cc in
             omega arith
 
@@ -164,7 +164,7 @@ module _ (d : Document) (mem : List ℕ) (w : Which) (s : ℕ) (h : BlockHeld d 
         unfolding put_block
         inserted-block start len used l mem₂ e₂ =
             e₂
-            ∙ rw (e₁, words-room (arena_part d w mem) A (block_of b) k id has_room, ← insertion-is, l.start_is, l.len_is)
+            ∙ rw (e₁, words-room (arena_part d w mem) A (block_of b) k id has-room, ← insertion-is, l.start_is, l.len_is)
 
     -- ---- a removal
     module _ (id : ℕ) where

@@ -67,9 +67,9 @@ module _ (p : Pool) (names : List (Option Name)) (lengths : Bool) (d : Document)
     pub handle-in : handle_at (decode_with p names lengths d mem) s ≡ handle_word s (generation_at d.limits.nodes (slots_part d mem) s)
     handle-in = ap (handle_word s) generation-in
 
-    pub live_in : live_slot (decode_with p names lengths d mem) s
+    pub live-in : live_slot (decode_with p names lengths d mem) s
         ≡ (even (generation_at d.limits.nodes (slots_part d mem) s) && is_some (kind_loaded (loaded_at d.limits.nodes (slots_part d mem) s)))
-    live_in = rw (generation-in, kind-column)
+    live-in = rw (generation-in, kind-column)
 
     -- ---- its node, where its words are one
     module _ (m : Node) (e : loaded_at d.limits.nodes (slots_part d mem) s ≡ Found m) where
@@ -86,14 +86,14 @@ module _ (p : Pool) (names : List (Option Name)) (lengths : Bool) (d : Document)
       list-found a = ap (list_of (arena_in d a mem)) (range-found a)
 
       pub live-found : live_slot (decode_with p names lengths d mem) s ≡ even (generation_at d.limits.nodes (slots_part d mem) s)
-      live-found = live_in ∙ ap (λ (l : Loaded). even (generation_at n w s) && is_some (kind_loaded l)) e ∙ and-true (even (generation_at n w s))
+      live-found = live-in ∙ ap (λ (l : Loaded). even (generation_at n w s) && is_some (kind_loaded l)) e ∙ and-true (even (generation_at n w s))
         where
           and-true : (t : Bool) → (t && true) ≡ t
           and-true true = refl
           and-true false = refl
 
     pub live-none : loaded_at d.limits.nodes (slots_part d mem) s ≡ NoNode → live_slot (decode_with p names lengths d mem) s ≡ false
-    live-none e = live_in ∙ ap (λ (l : Loaded). even (generation_at n w s) && is_some (kind_loaded l)) e ∙ and-false (even (generation_at n w s))
+    live-none e = live-in ∙ ap (λ (l : Loaded). even (generation_at n w s) && is_some (kind_loaded l)) e ∙ and-false (even (generation_at n w s))
 
   -- ---- a slot past those made
 
@@ -175,7 +175,7 @@ module _ (p : Pool) (names : List (Option Name)) (lengths : Bool) (d : Document)
             (loaded-narrow q
             ∙ sym (rw (lt-ltb _ _ b, q, eq-eqb h.generation h.generation refl, eq-eqb (h.generation % 2) 0 v))
             ∙ e)
-        even-here b q (no v) = live_in h.index b ∙ rw (q, ne_eqb (h.generation % 2) 0 v)
+        even-here b q (no v) = live-in h.index b ∙ rw (q, ne_eqb (h.generation % 2) 0 v)
 
         same : (b : h.index < slots_made d) → Dec (generation_at n w h.index ≡ h.generation) → (live_slot D h.index && eqb (doc.generation_at D h.index) h.generation) ≡ false
         same b (yes q) = ap (λ (t : Bool). t && eqb (doc.generation_at D h.index) h.generation) (even-here b q (ℕ_discrete (h.generation % 2) 0))

@@ -67,8 +67,8 @@ module _ (d : Document) (mem : List ℕ) where
         ap length q ∙ length_part mem (texts_at (limits_of d.limits)) (2 * d.limits.texts + d.limits.textbytes) z.texts ∙ omega arith in
         n ∙ sym (ap (λ (k : TextLimits). k.slots + k.slots + k.bytes) e)
 
-    pub text_of : (n : TextCounts) (s : ℕ) (r : List ℕ) → n ≡ text_counts d → r ≡ text_shown l n s w → r ≡ text_in d mem (some s)
-    text_of n s r k h =
+    pub text-of : (n : TextCounts) (s : ℕ) (r : List ℕ) → n ≡ text_counts d → r ≡ text_shown l n s w → r ≡ text_in d mem (some s)
+    text-of n s r k h =
         h
         ∙ ap (λ (x : TextLimits). text_shown x n s w) e
         ∙ ap (λ (x : TextCounts). text_shown (text_limits d) x s w) k

@@ -40,14 +40,14 @@ module _ (d : Document) (mem : List ℕ) where
     live-wide h = sym (columns.live-none (pool_in d mem) (names_in d mem) (lengths_add d mem) d mem s b (rw (← e, le-ltb g 4294967296 h)))
 
     pub live-odd : (g % 2 ≡ 0 → ⊥) → false ≡ live_slot (decode d mem) s
-    live-odd h = sym (columns.live_in (pool_in d mem) (names_in d mem) (lengths_add d mem) d mem s b ∙ rw (← e, ne_eqb (g % 2) 0 h))
+    live-odd h = sym (columns.live-in (pool_in d mem) (names_in d mem) (lengths_add d mem) d mem s b ∙ rw (← e, ne_eqb (g % 2) 0 h))
 
     pub live-node : g < 4294967296 → g % 2 ≡ 0 → (r : NodeRecord) → r ≡ record_at d.limits.nodes (slots_part d mem) s → (t : Bool) → t ≡ is_node r
         → t ≡ live_slot (decode d mem) s
     unfolding node_at
     live-node lt even r er t et =
         et ∙ ap is_node er ∙ sym (node-some (record_at n w s))
-        ∙ sym (columns.live_in (pool_in d mem) (names_in d mem) (lengths_add d mem) d mem s b ∙ rw (← e, eq-eqb (g % 2) 0 even, lt-ltb g 4294967296 lt))
+        ∙ sym (columns.live-in (pool_in d mem) (names_in d mem) (lengths_add d mem) d mem s b ∙ rw (← e, eq-eqb (g % 2) 0 even, lt-ltb g 4294967296 lt))
 
   module _ (h : NodeId) (hi : h.index < 4294967296) (hg : h.generation < 4294967296) where
     in-word : resolves D (word_of h) ≡ (live_slot D h.index && eqb (doc.generation_at D h.index) h.generation)

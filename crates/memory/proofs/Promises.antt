@@ -39,7 +39,7 @@ use Rattle.memory.proofs.Shaped.{length-slots_part, length_ids}
 use Rattle.memory.proofs.Written.{length-put_arena}
 use Rattle.memory.proofs.Kept.{TextsKept, kept_again, decode-kept, put_slots-texts, put_arena-texts}
 use Rattle.memory.proofs.Steps as steps
-use Rattle.memory.proofs.BlockSteps.{slot-made, slot-in, block_in, block_held, owner, landed, dropped-fits}
+use Rattle.memory.proofs.BlockSteps.{slot-made, slot-in, block-in, block_held, owner, landed, dropped-fits}
 use Rattle.memory.proofs.Linked.{EditFits, decode-put_block}
 
 -- ---- the words of one slot keep texts and names
@@ -103,7 +103,7 @@ module _ (d : Document) (mem : List ℕ) (w : Which) (s : ℕ) (h : BlockHeld d 
   A = (decode d mem).arenas w
 
   held : Held (arena_part d w mem) E (arena_used d w) b.start b.len
-  held = block_held d mem w s h b (block_in d mem w s h)
+  held = block_held d mem w s h b (block-in d mem w s h)
 
   edit-promise : (e : Edit) → EditFits (entries_of d.limits w) e → decode (with_used d w e.arena.used) (put_block d mem w s e) ≡ set_block (decode d mem) w s e
   unfolding with_used lengths_add
@@ -119,7 +119,7 @@ module _ (d : Document) (mem : List ℕ) (w : Which) (s : ℕ) (h : BlockHeld d 
     unfolding insertion
     insertion-fits =
         let q = words-room (arena_part d w mem) A (block_of b) k id room in
-        let l = landed d mem w s h b (block_in d mem w s h) room k id _ refl _ _ _ _ (answer-room (arena_part d w mem) A (block_of b) k id room) in
+        let l = landed d mem w s h b (block-in d mem w s h) room k id _ refl _ _ _ _ (answer-room (arena_part d w mem) A (block_of b) k id room) in
         record {
           long = ap length (sym q) ∙ after-length (arena_part d w mem) E (arena_used d w) b.start b.len held k id;
           arena =
@@ -146,7 +146,7 @@ module _ (d : Document) (mem : List ℕ) (w : Which) (s : ℕ) (h : BlockHeld d 
               ap (λ (u : ℕ). arena_of E u (arena_words (removed A (block_of b) id).arena)) (removed-used A (block_of b) id)
               ∙ decoded-removed (arena_part d w mem) E (arena_used d w) b.start b.len held id;
           used = omega (arith, removed-used A (block_of b) id, held.fits);
-          fits = dropped-fits d mem w s h b (block_in d mem w s h) id;
+          fits = dropped-fits d mem w s h b (block-in d mem w s h) id;
         }
 
     -- the length in use stays, so the record is as before but for the order

@@ -145,8 +145,8 @@ module _ (d : Document) (mem : List ℕ) where
       go NoNode e = absurd (false≢true (sym (columns.live-none (pool_in d mem) (names_in d mem) (lengths_add d mem) d mem s (columns.live_made (pool_in d mem) (names_in d mem) (lengths_add d mem) d mem s l) e) ∙ l))
 
   module _ (s : ℕ) (l : live_slot (decode d mem) s ≡ true) where
-    pub live_below : s < d.limits.nodes
-    live_below = let b = columns.live_made (pool_in d mem) (names_in d mem) (lengths_add d mem) d mem s l in omega arith
+    pub live-below : s < d.limits.nodes
+    live-below = let b = columns.live_made (pool_in d mem) (names_in d mem) (lengths_add d mem) d mem s l in omega arith
 
     fields : Narrow (record_at n w s)
     fields = by-node _ s l (λ m h. narrow (record_at n w s) h.node)

@@ -38,7 +38,7 @@ use Rattle.model.specs.Rules.{Shape, Rules, block_in}
 use Rattle.model.specs.Arguments.{refuse_if, first, is_utf8, text_check, space_only}
 use Rattle.model.specs.Checks.{View, container, a_child, moved_text, stored_text, check_move}
 use Rattle.model.specs.Calls.{room_fits, root_taken}
-use Rattle.laws.proofs.Basics.{live_below}
+use Rattle.laws.proofs.Basics.{live-below}
 use Rattle.laws.proofs.Guards.{first-zero}
 use Rattle.layout.specs.declared.Document.{Document}
 use Rattle.memory.specs.Decode.{slot_of, kind_of, resolved_in, pool_in, names_in, lengths_add, decode}
@@ -209,7 +209,7 @@ module _ (D : Doc) (sh : Shape D) (R : Rules D) (c p : ℕ) where
     -- within one parent its own going makes room
     pub room-same : handle_index q ≡ handle_index p → room_fits (unhook D c) children p ≡ has_room_after_removal A (range_in D children (handle_index p)) c
     room-same i =
-        let b : handle_index q < length (D.ranges children) = omega (arith, live_below D (handle_index q) lq, sh.ranges children) in
+        let b : handle_index q < length (D.ranges children) = omega (arith, live-below D (handle_index q) lq, sh.ranges children) in
         under
         ∙ ap (λ (j : ℕ). has_room (removed A B c).arena (get_or (set (D.ranges children) (handle_index q) (removed A B c).block) j (block 0 0))) (sym i)
         ∙ ap (has_room (removed A B c).arena) (get_or-set_same (D.ranges children) (handle_index q) (removed A B c).block (block 0 0) b)

@@ -120,11 +120,11 @@ module _ (d : Document) (mem : List ℕ) (b : Block) (ok : memory_ok d (length m
 
 module _ (d : Doc) (p : Position) (from n turns room x : ℕ) (inv : following n n d p from ≡ following turns room d p x) where
   module _ (h : 0 < turns) (w : Sought) (e : w ≡ seek room d p x) where
-    one_more : turns ≡ suc (turns - 1)
-    one_more = omega arith
+    one-more : turns ≡ suc (turns - 1)
+    one-more = omega arith
 
     told : following n n d p from ≡ resumed (λ q rest. following (turns - 1) rest d p q) w
-    told = inv ∙ ap (λ (k : ℕ). following k room d p x) one_more ∙ ap (resumed (λ q rest. following (turns - 1) rest d p q)) (sym e)
+    told = inv ∙ ap (λ (k : ℕ). following k room d p x) one-more ∙ ap (resumed (λ q rest. following (turns - 1) rest d p q)) (sym e)
 
     pub following-stops : w ≡ seeks.End → End ≡ following n n d p from
     following-stops f = sym (told ∙ ap (resumed (λ q rest. following (turns - 1) rest d p q)) f)
@@ -221,8 +221,8 @@ module _ (d : Document) (mem : List ℕ) (p : Position) (x room : ℕ) (id : Nod
     abbrev l : List ℕ
     l = list_of (arena_in d children mem) b
 
-    block_inside : b.start + b.len ≤ entries_of d.limits children
-    block_inside = shown-inside d mem children (word_of id) b e
+    block-inside : b.start + b.len ≤ entries_of d.limits children
+    block-inside = shown-inside d mem children (word_of id) b e
 
     turned : seek_under room D p x (some q) ≡ cond (leb (length l) room) (looked l) seeks.End
     turned =
@@ -231,29 +231,29 @@ module _ (d : Document) (mem : List ℕ) (p : Position) (x room : ℕ) (id : Nod
 
     pub under-full : room < b.len → seeks.End ≡ seek_under room D p x (some q)
     under-full h =
-        let z = shown-length d mem b ok block_inside in
+        let z = shown-length d mem b ok block-inside in
         sym (turned ∙ ap (λ (c : Bool). cond c (looked l) seeks.End) (lt-leb (length l) room (omega arith)))
 
     module _ (g k : ℕ) (m : g ≡ hint_for p.hints b.len) (n : k ≡ hinted_index l x g) (roomy : b.len ≤ room) (a : ℕ) (i : a ≡ q) where
       index : k ≡ hinted_index l x (hint_for p.hints (length l))
-      index = n ∙ ap (hinted_index l x) (m ∙ ap (hint_for p.hints) (sym (shown-length d mem b ok block_inside)))
+      index = n ∙ ap (hinted_index l x) (m ∙ ap (hint_for p.hints) (sym (shown-length d mem b ok block-inside)))
 
       looks : seek_under room D p x (some q) ≡ cond (ltb (suc k) (length l)) (outcome (visit_entry D p a l (suc k))) (seeks.Above a (room - length l))
       looks =
-          let z = shown-length d mem b ok block_inside in
+          let z = shown-length d mem b ok block-inside in
           turned ∙ ap (λ (c : Bool). cond c (looked l) seeks.End) (le-leb (length l) room (omega arith))
           ∙ ap (λ (j : ℕ). cond (ltb (suc j) (length l)) (outcome (visit_entry D p q l (suc j))) (seeks.Above q (room - length l))) (sym index)
           ∙ ap (λ (j : ℕ). cond (ltb (suc k) (length l)) (outcome (visit_entry D p j l (suc k))) (seeks.Above j (room - length l))) (sym i)
 
       pub under_at : suc k < b.len → (w : Walked) → w ≡ visit_entry D p a l (k + 1) → (s : Sought) → s ≡ outcome w → s ≡ seek_under room D p x (some q)
       under_at h w f s u =
-          let z = shown-length d mem b ok block_inside in
+          let z = shown-length d mem b ok block-inside in
           u ∙ ap outcome (f ∙ ap (visit_entry D p a l) (add-one k)) ∙ sym (looks
           ∙ ap (λ (c : Bool). cond c (outcome (visit_entry D p a l (suc k))) (seeks.Above a (room - length l))) (lt-ltb (suc k) (length l) (omega arith)))
 
       pub under-above : b.len ≤ suc k → seeks.Above a (room - b.len) ≡ seek_under room D p x (some q)
       under-above h =
-          let z = shown-length d mem b ok block_inside in
+          let z = shown-length d mem b ok block-inside in
           sym (looks
           ∙ ap (λ (c : Bool). cond c (outcome (visit_entry D p a l (suc k))) (seeks.Above a (room - length l))) (le-ltb (suc k) (length l) (omega arith))
           ∙ ap (λ (n : ℕ). seeks.Above a (room - n)) z)

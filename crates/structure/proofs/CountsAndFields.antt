@@ -29,7 +29,7 @@ use Rattle.model.specs.Doc.{Doc, live_slot, kind_in, parent_in, even, is_some, i
 use Rattle.model.specs.RulesTest as test
 use Rattle.model.specs.RulesTest.{implies, fits_field, all_slots, all_live, all_which, words_within, one_root, counts_and_fields_hold}
 use Rattle.laws.proofs.Basics.{live-node}
-use Rattle.laws.proofs.Quantifiers.{slots_at, at_slots, implies_true, true_implies}
+use Rattle.laws.proofs.Quantifiers.{slots-at, at_slots, implies_true, true_implies}
 use Rattle.layout.specs.declared.Document.{Document}
 use Rattle.layout.specs.declared.Limits as given
 use Rattle.layout.specs.declared.Counts.{Counts}
@@ -228,18 +228,18 @@ module _ (d : Document) (mem : List ℕ) where
     generation = narrow;
     order = λ i h.
         rw (order-in no_texts [] true d mem i (omega arith)) at (ltb-true (get_or nodes.order i 0) 4294967296
-        (slots_at nodes (λ i. fits_field (get_or nodes.order i 0)) (search (and_left, and_right)) i (made-below i h)));
+        (slots-at nodes (λ i. fits_field (get_or nodes.order i 0)) (search (and_left, and_right)) i (made-below i h)));
     node = λ i h v.
         sym (kind-there i h (narrow i h))
         ∙ implies_true (even (model.generation_at nodes i)) (is_some (get_or nodes.kinds i none))
-        (slots_at nodes (λ i. implies (even (model.generation_at nodes i)) (is_some (get_or nodes.kinds i none))) (search (and_left, and_right)) i (made-below i h))
+        (slots-at nodes (λ i. implies (even (model.generation_at nodes i)) (is_some (get_or nodes.kinds i none))) (search (and_left, and_right)) i (made-below i h))
         (rw (generation-in no_texts [] true d mem i h) (eq-eqb (generation_at n words i % 2) 0 v));
   })
     where
       narrow : (i : ℕ) → i < slots_made d → generation_at n words i < 4294967296
       narrow i h =
           rw (generation-column d mem i h) at (ltb-true (get_or nodes.gens i 0) 4294967296
-          (slots_at nodes (λ i. fits_field (get_or nodes.gens i 0)) (search (and_left, and_right)) i (made-below i h)))
+          (slots-at nodes (λ i. fits_field (get_or nodes.gens i 0)) (search (and_left, and_right)) i (made-below i h)))
 
   -- ---- the rule
 

@@ -57,8 +57,8 @@ module _ (p : ℕ → Bool) (ids : List ℕ) (start : ℕ) where
   counted_none = sym (ap (count_of p) (part_none ids start))
 
   module _ (k count word : ℕ) (h : start + k < length ids) (e : word ≡ get_or ids (start + k) 0) (q : count ≡ count_of p (part start k ids)) where
-    one_more : count_of p (part start (k + 1) ids) ≡ count + cond (p word) 1 0
-    one_more =
+    one-more : count_of p (part start (k + 1) ids) ≡ count + cond (p word) 1 0
+    one-more =
         ap (λ (n : ℕ). count_of p (part start n ids)) (add-one k)
         ∙ ap (count_of p) (part-snoc ids start k 0 h)
         ∙ count_of-snoc p (part start k ids) (get_or ids (start + k) 0)
@@ -66,11 +66,11 @@ module _ (p : ℕ → Bool) (ids : List ℕ) (start : ℕ) where
 
     module _ (t : Bool) (g : t ≡ p word) (count' : ℕ) where
       pub counted-yes : t ≡ true → count' ≡ count + 1 → count' ≡ count_of p (part start (k + 1) ids)
-      counted-yes y f = f ∙ sym (one_more ∙ ap (λ (x : Bool). count + cond x 1 0) (sym g ∙ y))
+      counted-yes y f = f ∙ sym (one-more ∙ ap (λ (x : Bool). count + cond x 1 0) (sym g ∙ y))
 
       pub counted-no : t ≡ false → count' ≡ count → count' ≡ count_of p (part start (k + 1) ids)
       counted-no y f =
-          let z = one_more ∙ ap (λ (x : Bool). count + cond x 1 0) (sym g ∙ y) in
+          let z = one-more ∙ ap (λ (x : Bool). count + cond x 1 0) (sym g ∙ y) in
           omega arith
 
   pub counted-fits : (k count : ℕ) → start + k ≤ length ids → count ≡ count_of p (part start k ids) → count ≤ k
@@ -82,8 +82,8 @@ module _ (d : Document) (mem : List ℕ) (fields : counts_and_fields_hold (decod
   abbrev nodes : Doc
   nodes = decode_nodes d mem
 
-  pub root_live : live_slot (decode_nodes d mem) 0 ≡ true
-  root_live =
+  pub root-live : live_slot (decode_nodes d mem) 0 ≡ true
+  root-live =
       let f = fields-of-test nodes fields in
       and_both (even (generation_at nodes 0)) (is_some (get_or nodes.kinds 0 none)) (rw f.root_generation) (rw f.root_kind)
 
@@ -91,7 +91,7 @@ module _ (d : Document) (mem : List ℕ) (fields : counts_and_fields_hold (decod
     pub root-inside : memory_ok d (length mem) ≡ true → blocks_hold (decode_nodes d mem) ≡ true → r.start + r.len ≤ d.limits.children
     root-inside ok blocks =
         let b = blocks-of-test nodes (shape no_texts [] true d mem ok) blocks children in
-        let v : block_in nodes children 0 ≡ block_of r = rw root_live (sym e) in
+        let v : block_in nodes children 0 ≡ block_of r = rw root-live (sym e) in
         let i = rw v at (b.inside 0).below in
         omega (arith, i, capacity-least (arena_in d children mem).caps (block_of r))
 
@@ -99,7 +99,7 @@ module _ (d : Document) (mem : List ℕ) (fields : counts_and_fields_hold (decod
     unfolding entries_hold
     root-listed h =
         let l = which-at (λ w. all_live nodes (λ i. all (entry_holds nodes w i) (list_in nodes w i))) (and_right (all_live nodes (λ i. all_option (entered_once nodes i) (parent_in nodes i))) _ h) children in
-        let a = live_at nodes (λ i. all (entry_holds nodes children i) (list_in nodes children i)) l 0 root_live in
+        let a = live_at nodes (λ i. all (entry_holds nodes children i) (list_in nodes children i)) l 0 root-live in
         ap (λ x. all (entry_holds nodes children 0) (list_of (arena_in d children mem) x)) e ∙ a
 
     pub root-elements : (count : ℕ) → count ≡ count_of (element_test (decode_nodes d mem)) (list_of (arena_in d children mem) (block_of r)) → leb count 1 ≡ one_root_element_holds (decode_nodes d mem)

@@ -126,9 +126,9 @@ module _ (d : Document) (mem : List ℕ) (ok : memory_ok d (length mem) ≡ true
   fields-decoded-there h = fields-decide d mem ∙ sym (fields-decoded d mem ok h)
 
   -- where the lengths do not add up, rule 8 is broken
-  no_lengths : lengths_add d mem ≡ false → texts_hold (decode d mem) ≡ false
+  no-lengths : lengths_add d mem ≡ false → texts_hold (decode d mem) ≡ false
   unfolding texts_hold
-  no_lengths h = rw h
+  no-lengths h = rw h
 
   abbrev links : Bool
   links = entries_hold (decode_nodes d mem) && one_root_element_holds (decode_nodes d mem) && parents_end_holds (decode_nodes d mem)
@@ -159,9 +159,9 @@ module _ (d : Document) (mem : List ℕ) (ok : memory_ok d (length mem) ≡ true
           (ap₂ ◌&&◌ (ap₂ ◌&&◌ (ap₂ ◌&&◌ (ap₂ ◌&&◌ (ap₂ ◌&&◌ (fields-decoded-there h) free-decoded) parents-decoded) entries-decoded) blocks-decoded) ends-decoded)
           root-decoded)
       go false h =
-          ap (λ (t : Bool). (fields_fit d mem && free_list_holds (decode_nodes d mem)) && (each && t) && links) (no_lengths h)
+          ap (λ (t : Bool). (fields_fit d mem && free_list_holds (decode_nodes d mem)) && (each && t) && links) (no-lengths h)
           ∙ broken (fields_fit d mem && free_list_holds (decode_nodes d mem)) each links
-          ∙ sym (ap (λ (t : Bool). others && t) (no_lengths h) ∙ and-false others)
+          ∙ sym (ap (λ (t : Bool). others && t) (no-lengths h) ∙ and-false others)
 
   module _ (slots : Bool) (e : slots ≡ (fields_fit d mem && free_list_holds (decode_nodes d mem))) where
     pub slots-broken : not slots ≡ true → false ≡ rules_hold (decode d mem)

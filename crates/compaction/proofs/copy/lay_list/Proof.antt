@@ -2,7 +2,7 @@
 -- Assumes nothing.
 use native.Mathlib.Omega.{arith}
 use Rattle.layout.specs.Layout.{which_of}
-use Rattle.compaction.proofs.Copying.{slot-in, narrow, block_inside, block_room, arena-ok, laid-with}
+use Rattle.compaction.proofs.Copying.{slot-in, narrow, block-inside, block_room, arena-ok, laid-with}
 use borrow.Author.Rules.{rules}
 use Rattle.compaction.proofs.copy.lay_list.Statement.{statement}
 use Rattle.compaction.proofs.copy.lay_list.Tie as tie
@@ -22,7 +22,7 @@ copy-block-requires c κs =
     let mem = s.args.mem.now in
     let w = which_of s.args.arena in
     let e = c.before.length-in.ensures in
-    (s.requires.memory, block_inside d mem w s.args.slot.0 s.args.used s.requires c.before.before.live-block.result c.before.before.live-block.ensures, omega (arith, e, block_room d mem w s.args.slot.0 s.args.used s.requires c.before.before.live-block.result c.before.before.live-block.ensures))
+    (s.requires.memory, block-inside d mem w s.args.slot.0 s.args.used s.requires c.before.before.live-block.result c.before.before.live-block.ensures, omega (arith, e, block_room d mem w s.args.slot.0 s.args.used s.requires c.before.before.live-block.result c.before.before.live-block.ensures))
 
 cast-t14 : tie.Need-overflow-cast-t14
 cast-t14 c =

@@ -1,6 +1,6 @@
 -- `edits::replace::with_field` meets its contract.
 -- Assumes nothing.
-use Rattle.edits.proofs.Fields.{field_of}
+use Rattle.edits.proofs.Fields.{field-of}
 use borrow.Author.Rules.{rules}
 use Rattle.edits.proofs.replace.with_field.Statement.{statement}
 use Rattle.edits.proofs.replace.with_field.Tie as tie
@@ -33,16 +33,16 @@ returns-2 : tie.Need-returns-2
 returns-2 c = search rules
 
 returns-3 : tie.Need-returns-3
-returns-3 c = let s = c.before.before.before in field_of s.args.«data» _ s.args.field c.before.«data».given.1
+returns-3 c = let s = c.before.before.before in field-of s.args.«data» _ s.args.field c.before.«data».given.1
 
 returns-4 : tie.Need-returns-4
-returns-4 c = let s = c.before.before in field_of s.args.«data» _ s.args.field c.enum-told3.given.1
+returns-4 c = let s = c.before.before in field-of s.args.«data» _ s.args.field c.enum-told3.given.1
 
 returns-5 : tie.Need-returns-5
 returns-5 c = search rules
 
 returns-6 : tie.Need-returns-6
-returns-6 c = let s = c.before.before.before in field_of s.args.«data» _ s.args.field c.before.data2.given.1
+returns-6 c = let s = c.before.before.before in field-of s.args.«data» _ s.args.field c.before.data2.given.1
 
 returns-7 : tie.Need-returns-7
 returns-7 c = search rules

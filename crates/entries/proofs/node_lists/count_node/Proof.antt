@@ -7,7 +7,7 @@ use Rattle.model.specs.Kinds.{children, attributes, namespaces}
 use Rattle.memory.specs.Decode.{slots_made}
 use Rattle.layout.proofs.Sizes.{sizes, memory-limits}
 use Rattle.entries.specs.Nodes.{decode_nodes}
-use Rattle.entries.proofs.Words.{live_below}
+use Rattle.entries.proofs.Words.{live-below}
 use Rattle.entries.proofs.Counting.{list_inside, list-passed, first-refused, second-refused, third}
 use Rattle.entries.proofs.node_lists.count_node.Statement.{statement}
 use Rattle.entries.proofs.node_lists.count_node.Tie as tie
@@ -20,7 +20,7 @@ mul_at c =
     let s = c.before.before.before.before in
     let a = s.args in
     let z = sizes a.d (length a.mem.now) s.requires.0.0 in
-    let b = live_below a.d a.mem.now a.s s.requires.1.0 in
+    let b = live-below a.d a.mem.now a.s s.requires.1.0 in
     omega (arith, z.nodes)
 
 mul-at-2 : tie.Need-overflow-mul-at-2
@@ -28,7 +28,7 @@ mul-at-2 c =
     let s = c.before.before.before.before in
     let a = s.args in
     let z = sizes a.d (length a.mem.now) s.requires.0.0 in
-    let b = live_below a.d a.mem.now a.s s.requires.1.0 in
+    let b = live-below a.d a.mem.now a.s s.requires.1.0 in
     omega (arith, z.nodes)
 
 add_at : tie.Need-overflow-add-at
@@ -36,7 +36,7 @@ add_at c =
     let s = c.before.before.before.before in
     let a = s.args in
     let z = sizes a.d (length a.mem.now) s.requires.0.0 in
-    let b = live_below a.d a.mem.now a.s s.requires.1.0 in
+    let b = live-below a.d a.mem.now a.s s.requires.1.0 in
     omega (arith, z.nodes)
 
 arena-at-requires : tie.Need-arena-at-requires
@@ -50,7 +50,7 @@ add-count-list c =
     let s = c.before.before.before.before.before in
     let a = s.args in
     let z = sizes a.d (length a.mem.now) s.requires.0.0 in
-    let b = live_below a.d a.mem.now a.s s.requires.1.0 in
+    let b = live-below a.d a.mem.now a.s s.requires.1.0 in
     omega (arith, z.nodes)
 
 count-list-requires : tie.Need-count-list-requires
@@ -58,7 +58,7 @@ count-list-requires c κs =
     let s = c.before.before.before.before.before.before in
     let a = s.args in
     let z = sizes a.d (length a.mem.now) s.requires.0.0 in
-    let b = live_below a.d a.mem.now a.s s.requires.1.0 in
+    let b = live-below a.d a.mem.now a.s s.requires.1.0 in
     ((z.slots, omega (arith, c.before.before.made.ensures), omega (arith, c.before.before.made.ensures, s.requires.0.1)), list_inside a.d a.mem.now a.s s.requires.0.0 s.requires.1.0 children s.requires.0.2 _ c.before.arena-at.ensures)
 
 same_length : tie.Need-same-length
@@ -81,7 +81,7 @@ add-count-list-2 c =
     let s = c.before.before.before.before.before.before.before.before.before.before.before in
     let a = s.args in
     let z = sizes a.d (length a.mem.now) s.requires.0.0 in
-    let b = live_below a.d a.mem.now a.s s.requires.1.0 in
+    let b = live-below a.d a.mem.now a.s s.requires.1.0 in
     omega (arith, z.nodes)
 
 count-list-requires-2 : tie.Need-count-list-requires-2
@@ -89,7 +89,7 @@ count-list-requires-2 c κs =
     let s = c.before.before.before.before.before.before.before.before.before.before.before.before in
     let a = s.args in
     let z = sizes a.d (length a.mem.now) s.requires.0.0 in
-    let b = live_below a.d a.mem.now a.s s.requires.1.0 in
+    let b = live-below a.d a.mem.now a.s s.requires.1.0 in
     ((z.slots, omega (arith, c.before.before.before.before.before.before.before.before.made.ensures), omega (arith, c.before.before.before.before.before.before.before.before.made.ensures, s.requires.0.1, c.before.before.before.before.before.count-list.auto.1.1.1.1.1.1.1.0)), list_inside a.d a.mem.now a.s s.requires.0.0 s.requires.1.0 attributes s.requires.0.2 _ c.before.arena-at2.ensures)
 
 same-length-2 : tie.Need-same-length-2
@@ -112,7 +112,7 @@ add-count-list-3 c =
     let s = c.before.before.before.before.before.before.before.before.before.before.before.before.before.before.before.before.before in
     let a = s.args in
     let z = sizes a.d (length a.mem.now) s.requires.0.0 in
-    let b = live_below a.d a.mem.now a.s s.requires.1.0 in
+    let b = live-below a.d a.mem.now a.s s.requires.1.0 in
     omega (arith, z.nodes)
 
 count-list-requires-3 : tie.Need-count-list-requires-3
@@ -120,7 +120,7 @@ count-list-requires-3 c κs =
     let s = c.before.before.before.before.before.before.before.before.before.before.before.before.before.before.before.before.before.before in
     let a = s.args in
     let z = sizes a.d (length a.mem.now) s.requires.0.0 in
-    let b = live_below a.d a.mem.now a.s s.requires.1.0 in
+    let b = live-below a.d a.mem.now a.s s.requires.1.0 in
     ((z.slots, omega (arith, c.before.before.before.before.before.before.before.before.before.before.before.before.before.before.made.ensures), omega (arith, c.before.before.before.before.before.before.before.before.before.before.before.before.before.before.made.ensures, s.requires.0.1, c.before.before.before.before.before.count-list2.auto.1.1.1.1.1.1.1.0, c.before.before.before.before.before.before.before.before.before.before.before.count-list.auto.1.1.1.1.1.1.1.0)), list_inside a.d a.mem.now a.s s.requires.0.0 s.requires.1.0 namespaces s.requires.0.2 _ c.before.arena-at3.ensures)
 
 same-length-3 : tie.Need-same-length-3

@@ -1,7 +1,7 @@
 -- `entries::nodes::first_text` meets its contract.
 -- Assumes nothing.
 use native.Mathlib.Omega.{arith}
-use Rattle.entries.proofs.Words.{live_below, live-narrow, first-narrow, first_word}
+use Rattle.entries.proofs.Words.{live-below, live-narrow, first-narrow, first_word}
 use Rattle.entries.proofs.nodes.first_text.Statement.{statement}
 use Rattle.entries.proofs.nodes.first_text.Tie as tie
 
@@ -13,7 +13,7 @@ cast-t5 c =
 record-word-requires : tie.Need-record-word-requires
 record-word-requires c κs =
     let s = c.before in
-    (s.requires.0, live_below s.args.d s.args.mem.now s.args.s s.requires.1, omega arith)
+    (s.requires.0, live-below s.args.d s.args.mem.now s.args.s s.requires.1, omega arith)
 
 chars-of-requires : tie.Need-chars-of-requires
 chars-of-requires c κs =

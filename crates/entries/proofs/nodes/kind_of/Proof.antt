@@ -2,7 +2,7 @@
 -- Assumes nothing.
 use mathlib.Core.Path.{◌∙◌}
 use native.Mathlib.Omega.{arith}
-use Rattle.entries.proofs.Words.{live_below, live-narrow, kind-word}
+use Rattle.entries.proofs.Words.{live-below, live-narrow, kind-word}
 use Rattle.entries.proofs.nodes.kind_of.Statement.{statement}
 use Rattle.entries.proofs.nodes.kind_of.Tie as tie
 
@@ -14,7 +14,7 @@ cast-t4 c =
 record-word-requires : tie.Need-record-word-requires
 record-word-requires c κs =
     let s = c.before in
-    (s.requires.0, live_below s.args.d s.args.mem.now s.args.s s.requires.1, omega arith)
+    (s.requires.0, live-below s.args.d s.args.mem.now s.args.s s.requires.1, omega arith)
 
 returns : tie.Need-returns
 returns c =

@@ -1,7 +1,7 @@
 -- `entries::nodes::parent_word` meets its contract.
 -- Assumes nothing.
 use native.Mathlib.Omega.{arith}
-use Rattle.entries.proofs.Words.{live_below, live-narrow}
+use Rattle.entries.proofs.Words.{live-below, live-narrow}
 use borrow.Author.Rules.{rules}
 use Rattle.entries.proofs.nodes.parent_word.Statement.{statement}
 use Rattle.entries.proofs.nodes.parent_word.Tie as tie
@@ -14,7 +14,7 @@ cast-t4 c =
 record-word-requires : tie.Need-record-word-requires
 record-word-requires c κs =
     let s = c.before in
-    (s.requires.0, live_below s.args.d s.args.mem.now s.args.s s.requires.1, omega arith)
+    (s.requires.0, live-below s.args.d s.args.mem.now s.args.s s.requires.1, omega arith)
 
 returns : tie.Need-returns
 returns c = search rules

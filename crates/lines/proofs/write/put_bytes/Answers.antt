@@ -10,20 +10,8 @@ use Rattle.words.specs.Parts.{put}
 use Rattle.words.proofs.Parts.{put_back}
 use Rattle.lines.proofs.write.put_bytes.Goals as goal
 
--- a lent part of n entries that n entries were copied to
-copied : (l s ys : List ℕ) (n : ℕ) → length s ≡ n → ys ≡ take n s ++ drop n (take n l) → ys ≡ s
-copied l s ys n q e =
-    let z : drop n (take n l) ≡ [] = drop_of_length-le (take n l) {i = n} (simp length-take (omega arith)) in
-    e ∙ rw (z, take_all n s (omega arith)) (append-nil s)
-
-returned : (l s ys : List ℕ) (at : ℕ) → ys ≡ take (length s) s ++ drop (length s) (take (at + length s - at) (drop at l))
-    → take at l ++ (ys ++ drop (at + length s - at) (drop at l)) ≡ put at s l
-returned l s ys at e =
-    let q : at + length s - at ≡ length s = omega arith in
-    let same : ys ≡ s = copied (drop at l) s ys (length s) refl (rw q at e) in
-    rw (q, same) (put_back l at s (length s) refl)
-
 pub returns : goal.returns
 returns c =
     let a = c.args in
-    record { value = refl; out_after = returned a.out.now a.text.now _ a.at c.copy.ensures.1 }
+    let q : a.at + length a.text.now - a.at ≡ length a.text.now = omega arith in
+    record { value = refl; out_after = rw (q, c.copy_from_slice.ensures.after) (put_back a.out.now a.at a.text.now (length a.text.now) refl) }

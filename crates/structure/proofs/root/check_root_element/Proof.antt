@@ -1,6 +1,6 @@
 -- `structure::root::check_root_element` meets its contract.
 -- Assumes nothing.
-use Rattle.structure.proofs.RootElement.{root_live, root-inside, root-listed, root-elements}
+use Rattle.structure.proofs.RootElement.{root-live, root-inside, root-listed, root-elements}
 use borrow.Author.Rules.{rules}
 use Rattle.structure.proofs.root.check_root_element.Statement.{statement}
 use Rattle.structure.proofs.root.check_root_element.Tie as tie
@@ -8,7 +8,7 @@ use Rattle.structure.proofs.root.check_root_element.Tie as tie
 block-of-requires : tie.Need-block-of-requires
 block-of-requires c κs =
     let s = c.before in
-    (s.requires.0, root_live s.args.d s.args.mem.now s.requires.1.0)
+    (s.requires.0, root-live s.args.d s.args.mem.now s.requires.1.0)
 
 cast-count-elements : tie.Need-overflow-cast-count-elements
 cast-count-elements c = search rules

@@ -3,7 +3,7 @@
 use mathlib.Core.List.{◌∷◌, []}
 use native.Mathlib.Omega.{arith}
 use lib.ListN.{length}
-use Rattle.memory.proofs.Words.{live_below}
+use Rattle.memory.proofs.Words.{live-below}
 use Rattle.model.specs.Kinds.{children, attributes, namespaces}
 use Rattle.walks.proofs.Numbering.{numbered-one, numbered-listed, numbered_more, listed-short}
 use borrow.Author.Rules.{rules}
@@ -19,7 +19,7 @@ put-key-requires c κs =
     let d = s.args.d in
     let mem = s.args.mem.now in
     let ok = (s.requires.0 children).held.memory in
-    let h = live_below d mem _ (s.requires.0 children).held.live in
+    let h = live-below d mem _ (s.requires.0 children).held.live in
     (ok, omega arith)
 
 add-number-list : tie.Need-overflow-add-number-list

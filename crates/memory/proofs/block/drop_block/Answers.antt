@@ -1,0 +1,44 @@
+-- `memory::block::drop_block` meets its contract.
+-- Assumes nothing.
+use native.Mathlib.Omega.{arith}
+use lib.ListN.{length}
+use Rattle.layout.specs.Layout.{which_of}
+use Rattle.layout.proofs.Sizes.{sizes, memory-limits}
+use Rattle.memory.proofs.Arenas.{drop-asked, drop-told}
+use Rattle.memory.proofs.block.drop_block.Goals as goal
+
+pub arena_at-start-requires : goal.arena_at-start-requires
+arena_at-start-requires c =
+    memory-limits c.args.d (length c.args.mem.now) c.requires.0
+
+pub overflow_add-end : goal.overflow_add-end
+overflow_add-end c =
+    let w = which_of c.args.arena in
+    let z = sizes c.args.d (length c.args.mem.now) c.requires.0 in
+    omega (arith, z.arena w, z.narrow w)
+
+pub overflow_add-end-2 : goal.overflow_add-end-2
+overflow_add-end-2 c =
+    let w = which_of c.args.arena in
+    let z = sizes c.args.d (length c.args.mem.now) c.requires.0 in
+    omega (arith, z.arena w, z.narrow w)
+
+pub offset_bounds-mem-start : goal.offset_bounds-mem-start
+offset_bounds-mem-start c =
+    let w = which_of c.args.arena in
+    let z = sizes c.args.d (length c.args.mem.now) c.requires.0 in
+    omega (arith, z.arena w, z.narrow w)
+
+pub slice_bounds-drop_from-end : goal.slice_bounds-drop_from-end
+slice_bounds-drop_from-end c =
+    let w = which_of c.args.arena in
+    let z = sizes c.args.d (length c.args.mem.now) c.requires.0 in
+    omega (arith, z.arena w, z.narrow w)
+
+pub drop_from-requires : goal.drop_from-requires
+drop_from-requires c =
+    drop-asked c.args.d (which_of c.args.arena) c.args.mem.now _ _ c.arena_limit-limit.ensures c.arena_at-start.ensures _ _ c.requires.1
+
+pub returns : goal.returns
+returns c =
+    record { value = (drop-told c.args.d (which_of c.args.arena) c.args.mem.now _ _ c.arena_limit-limit.ensures c.arena_at-start.ensures _ _ c.requires.1 _ _ _ (c.drop_from.ensures.by_index, c.drop_from.ensures.by_index_2)).0; mem_after = (drop-told c.args.d (which_of c.args.arena) c.args.mem.now _ _ c.arena_limit-limit.ensures c.arena_at-start.ensures _ _ c.requires.1 _ _ _ (c.drop_from.ensures.by_index, c.drop_from.ensures.by_index_2)).1 }

@@ -1,0 +1,49 @@
+-- `memory::parts::push_text` meets its contract.
+-- Assumes nothing.
+use native.Mathlib.Omega.{arith}
+use Prim.Native.Nat.{◌<◌}
+use lib.ListN.{length}
+use Rattle.texts.specs.Words.{Counted, PushedTo}
+use Rattle.layout.proofs.Sizes.{memory-limits}
+use Rattle.memory.proofs.Lent.{ends}
+use Rattle.memory.proofs.Cuts.{texts-asked, texts-told}
+use Rattle.memory.proofs.parts.push_text.Goals as goal
+
+pub texts_at-start-requires : goal.texts_at-start-requires
+texts_at-start-requires c =
+    memory-limits c.args.d (length c.args.mem.now) c.requires.0
+
+pub overflow_mul-end : goal.overflow_mul-end
+overflow_mul-end c =
+    let z = ends c.args.d (length c.args.mem.now) c.requires.0 in
+    omega (arith, c.texts_at-start.ensures)
+
+pub overflow_add-end : goal.overflow_add-end
+overflow_add-end c =
+    let z = ends c.args.d (length c.args.mem.now) c.requires.0 in
+    omega (arith, c.texts_at-start.ensures)
+
+pub overflow_add-end-2 : goal.overflow_add-end-2
+overflow_add-end-2 c =
+    let z = ends c.args.d (length c.args.mem.now) c.requires.0 in
+    omega (arith, c.texts_at-start.ensures)
+
+pub offset_bounds-mem-start : goal.offset_bounds-mem-start
+offset_bounds-mem-start c =
+    let z = ends c.args.d (length c.args.mem.now) c.requires.0 in
+    omega (arith, c.texts_at-start.ensures)
+
+pub slice_bounds-push_slot-end : goal.slice_bounds-push_slot-end
+slice_bounds-push_slot-end c =
+    let z = ends c.args.d (length c.args.mem.now) c.requires.0 in
+    omega (arith, c.texts_at-start.ensures)
+
+pub push_slot-requires : goal.push_slot-requires
+push_slot-requires c =
+    texts-asked c.args.d c.args.mem.now c.text_limits-limits.result c.text_limits-limits.ensures c.text_counts-counts.result c.text_counts-counts.ensures _ c.texts_at-start.ensures (λ l n w. Counted l n w × (n.free < l.slots))
+    (c.requires.1, c.requires.2)
+
+pub returns : goal.returns
+returns c =
+    let got = c.push_slot in
+    record { pushed_to = (texts-told c.args.d c.args.mem.now c.text_limits-limits.result c.text_limits-limits.ensures c.text_counts-counts.result c.text_counts-counts.ensures _ c.texts_at-start.ensures c.requires.0 (λ l n w v. PushedTo l n w v c.args.slot.0 got.result) _ got.auto.words got.ensures).0; mem_after = (texts-told c.args.d c.args.mem.now c.text_limits-limits.result c.text_limits-limits.ensures c.text_counts-counts.result c.text_counts-counts.ensures _ c.texts_at-start.ensures c.requires.0 (λ l n w v. PushedTo l n w v c.args.slot.0 got.result) _ got.auto.words got.ensures).1 }

@@ -1,0 +1,52 @@
+-- `memory::parts::write_over` meets its contract.
+-- Assumes nothing.
+use native.Mathlib.Omega.{arith}
+use mathlib.Core.Path.{◌≡◌}
+use mathlib.Core.Bool.{true}
+use Prim.Native.Nat.{◌<◌}
+use lib.ListN.{length}
+use Rattle.words.specs.Ends.{length_of}
+use Rattle.texts.specs.Words.{counts_fit, Counted, ReplacedTo}
+use Rattle.layout.proofs.Sizes.{memory-limits}
+use Rattle.memory.proofs.Lent.{ends}
+use Rattle.memory.proofs.Cuts.{texts-asked, texts-told}
+use Rattle.memory.proofs.parts.write_over.Goals as goal
+
+pub texts_at-start-requires : goal.texts_at-start-requires
+texts_at-start-requires c =
+    memory-limits c.args.d (length c.args.mem.now) c.requires.0
+
+pub overflow_mul-end : goal.overflow_mul-end
+overflow_mul-end c =
+    let z = ends c.args.d (length c.args.mem.now) c.requires.0 in
+    omega (arith, c.texts_at-start.ensures)
+
+pub overflow_add-end : goal.overflow_add-end
+overflow_add-end c =
+    let z = ends c.args.d (length c.args.mem.now) c.requires.0 in
+    omega (arith, c.texts_at-start.ensures)
+
+pub overflow_add-end-2 : goal.overflow_add-end-2
+overflow_add-end-2 c =
+    let z = ends c.args.d (length c.args.mem.now) c.requires.0 in
+    omega (arith, c.texts_at-start.ensures)
+
+pub offset_bounds-mem-start : goal.offset_bounds-mem-start
+offset_bounds-mem-start c =
+    let z = ends c.args.d (length c.args.mem.now) c.requires.0 in
+    omega (arith, c.texts_at-start.ensures)
+
+pub slice_bounds-replace_text-end : goal.slice_bounds-replace_text-end
+slice_bounds-replace_text-end c =
+    let z = ends c.args.d (length c.args.mem.now) c.requires.0 in
+    omega (arith, c.texts_at-start.ensures)
+
+pub replace_text-requires : goal.replace_text-requires
+replace_text-requires c =
+    texts-asked c.args.d c.args.mem.now c.text_limits-limits.result c.text_limits-limits.ensures c.text_counts-counts.result c.text_counts-counts.ensures _ c.texts_at-start.ensures (λ l n w. Counted l n w × (c.args.slot.0 < n.slots) × (counts_fit l n 0 (length_of w c.args.slot.0) (length c.args.text.now) ≡ true))
+    (c.requires.1, c.requires.2, c.requires.3)
+
+pub returns : goal.returns
+returns c =
+    let got = c.replace_text in
+    record { replaced_to = (texts-told c.args.d c.args.mem.now c.text_limits-limits.result c.text_limits-limits.ensures c.text_counts-counts.result c.text_counts-counts.ensures _ c.texts_at-start.ensures c.requires.0 (λ l n w v. ReplacedTo l n w v c.args.slot.0 c.args.text.now got.result) _ got.auto.words got.ensures).0; mem_after = (texts-told c.args.d c.args.mem.now c.text_limits-limits.result c.text_limits-limits.ensures c.text_counts-counts.result c.text_counts-counts.ensures _ c.texts_at-start.ensures c.requires.0 (λ l n w v. ReplacedTo l n w v c.args.slot.0 c.args.text.now got.result) _ got.auto.words got.ensures).1 }

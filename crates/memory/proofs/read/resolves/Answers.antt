@@ -1,0 +1,17 @@
+-- `memory::read::resolves` meets its contract. Each test of the handle is a way through the definition.
+-- Assumes nothing.
+use native.Mathlib.Omega.{arith}
+use Rattle.memory.proofs.Living.{resolves-past, resolves-other, resolves-same}
+use Rattle.memory.proofs.read.resolves.Goals as goal
+
+pub returns-then-index-made : goal.returns-then-index-made
+returns-then-index-made c =
+    resolves-past c.args.d c.args.mem.now c.args.id (omega arith) (omega arith) _ c.made.ensures c.if-index-made.true
+
+pub returns-then-generation-id : goal.returns-then-generation-id
+returns-then-generation-id c =
+    resolves-other c.args.d c.args.mem.now c.args.id (omega arith) (omega arith) (omega (arith, c.made.ensures)) _ c.generation.ensures c.if-generation-id.true
+
+pub returns : goal.returns
+returns c =
+    resolves-same c.args.d c.args.mem.now c.args.id (omega arith) (omega arith) (omega (arith, c.made.ensures)) _ c.generation.ensures c.if-generation-id.false _ c.is_live.ensures
