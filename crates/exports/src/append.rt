@@ -7,8 +7,7 @@ use encoding::record::{Lent, lent_record};
 use records::handle::id_of;
 
 // An element behind the parent's children. Rules out a handle that a refused call writes.
-#[unsafe(no_mangle)]
-pub extern "C" fn oxml_append_element(
+pub fn oxml_append_element(
     document: &mut [u64],
     memory: &mut [u64],
     scratch: &mut [u64],
@@ -32,8 +31,7 @@ pub extern "C" fn oxml_append_element(
 }
 
 // A text behind the parent's children. Rules out a record that is not written back.
-#[unsafe(no_mangle)]
-pub extern "C" fn oxml_append_text(
+pub fn oxml_append_text(
     document: &mut [u64],
     memory: &mut [u64],
     scratch: &mut [u64],
@@ -54,8 +52,7 @@ pub extern "C" fn oxml_append_text(
 }
 
 // A comment behind the parent's children. Rules out a text in its place.
-#[unsafe(no_mangle)]
-pub extern "C" fn oxml_append_comment(
+pub fn oxml_append_comment(
     document: &mut [u64],
     memory: &mut [u64],
     scratch: &mut [u64],
@@ -76,8 +73,7 @@ pub extern "C" fn oxml_append_comment(
 }
 
 // A processing instruction behind the parent's children. Rules out its target and content swapped.
-#[unsafe(no_mangle)]
-pub extern "C" fn oxml_append_pi(
+pub fn oxml_append_pi(
     document: &mut [u64],
     memory: &mut [u64],
     scratch: &mut [u64],

@@ -8,8 +8,7 @@ use encoding::record::{Lent, lent_record};
 use records::handle::id_of;
 
 // The text of a text node. Rules out another node's text.
-#[unsafe(no_mangle)]
-pub extern "C" fn oxml_set_text(
+pub fn oxml_set_text(
     document: &mut [u64],
     memory: &mut [u64],
     scratch: &mut [u64],
@@ -29,8 +28,7 @@ pub extern "C" fn oxml_set_text(
 }
 
 // An attribute of an element. Rules out a second attribute of the same name.
-#[unsafe(no_mangle)]
-pub extern "C" fn oxml_set_attribute(
+pub fn oxml_set_attribute(
     document: &mut [u64],
     memory: &mut [u64],
     scratch: &mut [u64],
@@ -54,8 +52,7 @@ pub extern "C" fn oxml_set_attribute(
 }
 
 // A namespace of an element. Rules out a new handle where the URI is replaced.
-#[unsafe(no_mangle)]
-pub extern "C" fn oxml_declare_namespace(
+pub fn oxml_declare_namespace(
     document: &mut [u64],
     memory: &mut [u64],
     scratch: &mut [u64],

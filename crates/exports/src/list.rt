@@ -23,8 +23,7 @@ fn read_name(d: Document, memory: &[u64], number: u64) -> NameAnswer
 }
 
 // 1 where the number has a name, else 0. Rules out a name for the number's low half.
-#[unsafe(no_mangle)]
-pub extern "C" fn oxml_name(
+pub fn oxml_name(
     document: &[u64],
     memory: &[u64],
     number: u64,
@@ -42,8 +41,7 @@ pub extern "C" fn oxml_name(
 }
 
 // The handles of all live nodes go to list, which holds as many as the node limit, and their count to answer. Rules out a handle of a free slot.
-#[unsafe(no_mangle)]
-pub extern "C" fn oxml_nodes(
+pub fn oxml_nodes(
     document: &[u64],
     memory: &[u64],
     list: &mut [u64],

@@ -8,8 +8,7 @@ use encoding::record::{Lent, lent_record};
 use records::handle::id_of;
 
 // A node goes behind another's children. Rules out child and parent swapped.
-#[unsafe(no_mangle)]
-pub extern "C" fn oxml_reparent(
+pub fn oxml_reparent(
     document: &mut [u64],
     memory: &mut [u64],
     scratch: &mut [u64],
@@ -30,8 +29,7 @@ pub extern "C" fn oxml_reparent(
 }
 
 // A node goes among another's children. Rules out an index that is counted before the unlink.
-#[unsafe(no_mangle)]
-pub extern "C" fn oxml_insert_at(
+pub fn oxml_insert_at(
     document: &mut [u64],
     memory: &mut [u64],
     scratch: &mut [u64],

@@ -7,8 +7,7 @@ use encoding::answer::{give_done, give_order};
 use encoding::record::{Lent, lent_record};
 
 // The order is made current; `oxml_order_words` shows it. Rules out words of an order that is not.
-#[unsafe(no_mangle)]
-pub extern "C" fn oxml_document_order(
+pub fn oxml_document_order(
     document: &mut [u64],
     memory: &mut [u64],
     scratch: &mut [u64],
@@ -25,8 +24,7 @@ pub extern "C" fn oxml_document_order(
 }
 
 // The arenas are rebuilt without gaps. Rules out a list that is changed.
-#[unsafe(no_mangle)]
-pub extern "C" fn oxml_compact(document: &mut [u64], memory: &mut [u64], scratch: &mut [u64]) -> u64
+pub fn oxml_compact(document: &mut [u64], memory: &mut [u64], scratch: &mut [u64]) -> u64
     ensures { Exported compact 0 as_done document.old memory.old scratch.old [] result document.new memory.new scratch.new [] }
 {
     match lent_record(&document[..], 0, 0) {

@@ -8,8 +8,7 @@ use encoding::record::{Lent, lent_record};
 use records::handle::id_of;
 
 // The Root's handle, in one word. Rules out another.
-#[unsafe(no_mangle)]
-pub extern "C" fn oxml_root(document: &[u64], memory: &[u64], answer: &mut [u64]) -> u64
+pub fn oxml_root(document: &[u64], memory: &[u64], answer: &mut [u64]) -> u64
     ensures { ExportedRead root-of 1 as_made document.now memory.now answer.old result answer.new }
 {
     match lent_record(document, answer.len(), 1) {
@@ -22,8 +21,7 @@ pub extern "C" fn oxml_root(document: &[u64], memory: &[u64], answer: &mut [u64]
 }
 
 // 1 and the parent's handle, or 0 and 0. Rules out a parent for a stale handle.
-#[unsafe(no_mangle)]
-pub extern "C" fn oxml_parent(document: &[u64], memory: &[u64], id: u64, answer: &mut [u64]) -> u64
+pub fn oxml_parent(document: &[u64], memory: &[u64], id: u64, answer: &mut [u64]) -> u64
     ensures { ExportedRead (parent-of id) 2 as_node document.now memory.now answer.old result answer.new }
 {
     match lent_record(document, answer.len(), 2) {
@@ -36,8 +34,7 @@ pub extern "C" fn oxml_parent(document: &[u64], memory: &[u64], id: u64, answer:
 }
 
 // 1 and the root element's handle, or 0 and 0. Rules out a child of the Root that is no element.
-#[unsafe(no_mangle)]
-pub extern "C" fn oxml_root_element(document: &[u64], memory: &[u64], answer: &mut [u64]) -> u64
+pub fn oxml_root_element(document: &[u64], memory: &[u64], answer: &mut [u64]) -> u64
     ensures { ExportedRead root-element 2 as_node document.now memory.now answer.old result answer.new }
 {
     match lent_record(document, answer.len(), 2) {
@@ -50,8 +47,7 @@ pub extern "C" fn oxml_root_element(document: &[u64], memory: &[u64], answer: &m
 }
 
 // 1 for an element, 0 for any other node. Rules out 1 for a stale handle.
-#[unsafe(no_mangle)]
-pub extern "C" fn oxml_is_element(
+pub fn oxml_is_element(
     document: &[u64],
     memory: &[u64],
     id: u64,
@@ -69,8 +65,7 @@ pub extern "C" fn oxml_is_element(
 }
 
 // 1 and the position in document order, or 0 and 0. Rules out an old position.
-#[unsafe(no_mangle)]
-pub extern "C" fn oxml_order_key(
+pub fn oxml_order_key(
     document: &[u64],
     memory: &[u64],
     id: u64,
@@ -88,8 +83,7 @@ pub extern "C" fn oxml_order_key(
 }
 
 // The block of a node's children, its start and length; `oxml_entries` shows it in arena 0. Rules out another list's.
-#[unsafe(no_mangle)]
-pub extern "C" fn oxml_children(
+pub fn oxml_children(
     document: &[u64],
     memory: &[u64],
     id: u64,
@@ -107,8 +101,7 @@ pub extern "C" fn oxml_children(
 }
 
 // The block of its attributes, in arena 1. Rules out another list's.
-#[unsafe(no_mangle)]
-pub extern "C" fn oxml_attribute_nodes(
+pub fn oxml_attribute_nodes(
     document: &[u64],
     memory: &[u64],
     id: u64,
@@ -126,8 +119,7 @@ pub extern "C" fn oxml_attribute_nodes(
 }
 
 // The block of its namespaces, in arena 2. Rules out another list's.
-#[unsafe(no_mangle)]
-pub extern "C" fn oxml_namespace_nodes(
+pub fn oxml_namespace_nodes(
     document: &[u64],
     memory: &[u64],
     id: u64,
@@ -145,8 +137,7 @@ pub extern "C" fn oxml_namespace_nodes(
 }
 
 // What a node is, in 8 words: kind, name number, two texts, attributes' and namespaces' blocks. Rules out the kind of a stale handle.
-#[unsafe(no_mangle)]
-pub extern "C" fn oxml_kind(document: &[u64], memory: &[u64], id: u64, answer: &mut [u64]) -> u64
+pub fn oxml_kind(document: &[u64], memory: &[u64], id: u64, answer: &mut [u64]) -> u64
     ensures { ExportedRead (kind-of id) 8 as_kind document.now memory.now answer.old result answer.new }
 {
     match lent_record(document, answer.len(), 8) {

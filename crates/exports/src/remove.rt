@@ -8,8 +8,7 @@ use encoding::record::{Lent, lent_record};
 use records::handle::id_of;
 
 // An attribute of an element goes, where there is one. Rules out 1 where there was none.
-#[unsafe(no_mangle)]
-pub extern "C" fn oxml_remove_attribute(
+pub fn oxml_remove_attribute(
     document: &mut [u64],
     memory: &mut [u64],
     scratch: &mut [u64],
@@ -33,8 +32,7 @@ pub extern "C" fn oxml_remove_attribute(
 }
 
 // A node goes, with all below it. Rules out a handle below it that resolves then.
-#[unsafe(no_mangle)]
-pub extern "C" fn oxml_remove(
+pub fn oxml_remove(
     document: &mut [u64],
     memory: &mut [u64],
     scratch: &mut [u64],
@@ -53,8 +51,7 @@ pub extern "C" fn oxml_remove(
 }
 
 // A node leaves its parent. Rules out a node that is freed.
-#[unsafe(no_mangle)]
-pub extern "C" fn oxml_detach(
+pub fn oxml_detach(
     document: &mut [u64],
     memory: &mut [u64],
     scratch: &mut [u64],

@@ -92,8 +92,7 @@ fn show_local(d: Document, memory: &[u64], number: u64) -> &[u64]
 }
 
 // The handles of a block of arena 0, 1 or 2. Rules out those of another arena.
-#[unsafe(no_mangle)]
-pub extern "C" fn oxml_entries(
+pub fn oxml_entries(
     document: &[u64],
     memory: &[u64],
     arena: u64,
@@ -110,8 +109,7 @@ pub extern "C" fn oxml_entries(
 }
 
 // The bytes of a text that `oxml_kind` told, one a word. Rules out those of another.
-#[unsafe(no_mangle)]
-pub extern "C" fn oxml_text_bytes(
+pub fn oxml_text_bytes(
     document: &[u64],
     memory: &[u64],
     text: u64,
@@ -126,8 +124,7 @@ pub extern "C" fn oxml_text_bytes(
 }
 
 // The namespace of a name, one byte a word. Rules out its local part.
-#[unsafe(no_mangle)]
-pub extern "C" fn oxml_namespace_bytes(
+pub fn oxml_namespace_bytes(
     document: &[u64],
     memory: &[u64],
     number: u64,
@@ -142,8 +139,7 @@ pub extern "C" fn oxml_namespace_bytes(
 }
 
 // The local part of a name, one byte a word. Rules out its namespace.
-#[unsafe(no_mangle)]
-pub extern "C" fn oxml_local_bytes(
+pub fn oxml_local_bytes(
     document: &[u64],
     memory: &[u64],
     number: u64,
@@ -158,8 +154,7 @@ pub extern "C" fn oxml_local_bytes(
 }
 
 // The order words of the slots made. Rules out those of slots that were never made.
-#[unsafe(no_mangle)]
-pub extern "C" fn oxml_order_words(document: &[u64], memory: &[u64], out: &mut [u64]) -> u64
+pub fn oxml_order_words(document: &[u64], memory: &[u64], out: &mut [u64]) -> u64
     ensures { ExportedShow document.now (order_shown (document_of document.now) memory.now) out.old result out.new }
 {
     match lent_record(document, 0, 0) {

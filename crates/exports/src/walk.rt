@@ -7,8 +7,7 @@ use encoding::record::{Lent, lent_record};
 use records::handle::id_of;
 
 // A walk below the zone begins: seven words go to position. Rules out a refusal of a handle that is stale.
-#[unsafe(no_mangle)]
-pub extern "C" fn oxml_descendants_of(
+pub fn oxml_descendants_of(
     document: &[u64],
     memory: &[u64],
     zone: u64,
@@ -27,8 +26,7 @@ pub extern "C" fn oxml_descendants_of(
 }
 
 // 1 and the next node of a walk, at which position then is; 0 and 0 at the end. Rules out a position that moves at the end.
-#[unsafe(no_mangle)]
-pub extern "C" fn oxml_walk_next(
+pub fn oxml_walk_next(
     document: &[u64],
     memory: &[u64],
     position: &mut [u64],
@@ -50,8 +48,7 @@ pub extern "C" fn oxml_walk_next(
 }
 
 // The whole walk: the handles go to list, which holds as many as the node limit, and their count to answer. Rules out a word written past the last handle.
-#[unsafe(no_mangle)]
-pub extern "C" fn oxml_list_below(
+pub fn oxml_list_below(
     document: &[u64],
     memory: &[u64],
     zone: u64,

@@ -6,6 +6,7 @@ use crate::buffers::{MEMORY, OUT, SCRATCH, TEXTS};
 use lines::read::find;
 use parsing::parse::LONGEST;
 use printing::sink::flush;
+use std::io::{Read, Stdin};
 
 const NEWLINE: u8 = 10;
 
@@ -66,14 +67,16 @@ fn to_front(input: &mut [u8], from: usize, to: usize) -> usize
     n
 }
 
-// One read behind the first bytes; where all then end.
-fn read_behind(input: &mut [u8], at: usize) -> usize
+// One read behind the first bytes; where all then end. A read that fails ends the input.
+fn read_behind(mut stdin: Stdin, input: &mut [u8], at: usize) -> usize
     requires { at ≤ length input.old }
     ensures { (at ≤ result) × (result ≤ length input.old) }
 {
     let part = &mut input[at..];
-    let got = libc::read(0, part);
-    at + io::count(got, &part[..])
+    match stdin.read(part) {
+        Ok(n) => at + n,
+        Err(_) => at,
+    }
 }
 
 // Nothing waits to be written any more.
@@ -135,6 +138,7 @@ fn answer_read(
 
 // One read, and the lines that end in it. What waits is written first: the read may wait for who reads the answers.
 fn turn(
+    stdin: Stdin,
     t: Input,
     mem: &mut [u64; MEMORY],
     scratch: &mut [u64; SCRATCH],
@@ -147,7 +151,7 @@ fn turn(
 {
     let session = written(t.session, out);
     let rest = t.rest;
-    let to = read_behind(input, rest);
+    let to = read_behind(stdin, input, rest);
     if to == rest {
         return Input {
             session,
@@ -190,6 +194,7 @@ fn turns_left(turns: u64, more: bool) -> u64
 
 // A proved loop has to end, and nothing says that the input does: the turns count down, from a number that no run uses up.
 fn read_all(
+    stdin: Stdin,
     s: Session,
     mem: &mut [u64; MEMORY],
     scratch: &mut [u64; SCRATCH],
@@ -206,13 +211,14 @@ fn read_all(
     };
     let mut turns = u64::MAX;
     while 0 < turns {
-        t = turn(t, mem, scratch, texts, input, out);
+        t = turn(stdin, t, mem, scratch, texts, input, out);
         turns = turns_left(turns, t.more);
     }
     t
 }
 
 pub fn replay(
+    stdin: Stdin,
     s: Session,
     mem: &mut [u64; MEMORY],
     scratch: &mut [u64; SCRATCH],
@@ -220,7 +226,7 @@ pub fn replay(
     input: &mut [u8],
     out: &mut [u8; OUT],
 ) {
-    let t = read_all(s, mem, scratch, texts, input, out);
+    let t = read_all(stdin, s, mem, scratch, texts, input, out);
     let rest = t.rest;
     let session = t.session;
     last_line(session, mem, scratch, texts, &input[0..rest], out);

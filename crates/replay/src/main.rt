@@ -9,7 +9,7 @@ mod input;
 use answer::Session;
 use buffers::{INPUT, MEMORY, OUT, SCRATCH, TEXTS};
 
-fn main() {
+fn main(rt: HostRuntime) {
     let mut mem = [0u64; MEMORY];
     let mut scratch = [0u64; SCRATCH];
     let mut texts = [0u8; TEXTS];
@@ -22,6 +22,7 @@ fn main() {
         long: false,
     };
     input::replay(
+        rt.stdin(),
         session,
         &mut mem,
         &mut scratch,

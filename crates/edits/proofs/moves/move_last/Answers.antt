@@ -1,0 +1,12 @@
+-- `edits::moves::move_last` meets its contract.
+-- Assumes nothing.
+use Rattle.records.specs.Handles.{word_of}
+use Rattle.edits.proofs.Moving.{admitted-last, last-performed}
+use Rattle.edits.proofs.moves.move_last.Goals as goal
+
+pub do_reparent-requires : goal.do_reparent-requires
+do_reparent-requires c = admitted-last c.args.d c.args.mem.now (word_of c.args.parent) (word_of c.args.id) c.requires
+
+pub returns : goal.returns
+returns c =
+    last-performed c.args.d c.args.mem.now (word_of c.args.parent) (word_of c.args.id) c.requires c.do_reparent.result _ c.do_reparent.ensures

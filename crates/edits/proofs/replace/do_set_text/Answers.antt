@@ -1,0 +1,13 @@
+-- `edits::replace::do_set_text` meets its contract.
+-- Assumes nothing.
+use Rattle.records.specs.Handles.{word_of}
+use Rattle.edits.proofs.Replaced.{set-ready, set-performed}
+use Rattle.edits.proofs.replace.do_set_text.Goals as goal
+
+pub do_replace_text-requires : goal.do_replace_text-requires
+do_replace_text-requires c = set-ready c.args.d c.args.mem.now (word_of c.args.id) c.args.text.now c.requires
+
+pub returns : goal.returns
+returns c =
+    let w = c.do_replace_text in
+    set-performed c.args.d c.args.mem.now (word_of c.args.id) c.args.text.now c.requires w.result _ w.ensures

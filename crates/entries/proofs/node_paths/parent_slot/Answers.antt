@@ -1,0 +1,12 @@
+-- `entries::node_paths::parent_slot` meets its contract.
+-- Assumes nothing.
+use Rattle.entries.proofs.Paths.{parent-none, parent-some}
+use Rattle.entries.proofs.node_paths.parent_slot.Goals as goal
+
+pub returns-then-word-eq0 : goal.returns-then-word-eq0
+returns-then-word-eq0 c =
+    parent-none c.args.d c.args.mem.now c.args.slot c.requires.1 _ c.parent_word-word.ensures c.if-word-eq0.true _ c.made.ensures
+
+pub returns : goal.returns
+returns c =
+    parent-some c.args.d c.args.mem.now c.args.slot c.requires.1 _ c.parent_word-word.ensures c.if-word-eq0.false

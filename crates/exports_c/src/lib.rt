@@ -1,0 +1,13 @@
+// The static library for programs in C and Rust: each export is the call of its name in `exports`.
+#![tactic(auto)]
+
+pub mod append;
+pub mod change;
+pub mod list;
+pub mod moves;
+pub mod order;
+pub mod read;
+pub mod remove;
+pub mod show;
+pub mod start;
+pub mod walk;

@@ -1,0 +1,12 @@
+-- `lookup::finding::same_pair` meets its contract.
+-- Assumes nothing.
+use Rattle.model.specs.Doc.{pair_at}
+use Rattle.memory.specs.Decode.{decode}
+use Rattle.lookup.proofs.Found.{pair-both, pair-not}
+use Rattle.lookup.proofs.finding.same_pair.Goals as goal
+
+pub returns-then-same_bytes : goal.returns-then-same_bytes
+returns-then-same_bytes c = let s = c.args in pair-both s.namespace.now s.local.now (pair_at (decode s.d s.mem.now) s.number.0) _ c.namespace_bytes.ensures _ c.same_bytes.ensures c.if-same_bytes.true _ c.local_bytes.ensures _ c.same_bytes-then-same_bytes.ensures
+
+pub returns : goal.returns
+returns c = let s = c.args in pair-not s.namespace.now s.local.now (pair_at (decode s.d s.mem.now) s.number.0) _ c.namespace_bytes.ensures _ c.same_bytes.ensures c.if-same_bytes.false

@@ -1,0 +1,11 @@
+-- `plans::appends::check_append_comment` meets its contract.
+-- Assumes nothing.
+use Rattle.verdicts.proofs.Verdicts.{refused-twice, accepted-twice}
+use Rattle.verdicts.proofs.Bytes.{comment-checked}
+use Rattle.plans.proofs.appends.check_append_comment.Goals as goal
+
+pub returns-then-is_accepted : goal.returns-then-is_accepted
+returns-then-is_accepted c = accepted-twice _ _ _ _ _ _ _ c.not_utf8.ensures c.container.ensures c.first-place.ensures c.is_accepted.ensures c.if-is_accepted.true _ (comment-checked _ _ _ c.check_comment.ensures c.of_check.ensures)
+
+pub returns-else-is_accepted : goal.returns-else-is_accepted
+returns-else-is_accepted c = refused-twice _ _ _ _ _ _ _ c.not_utf8.ensures c.container.ensures c.first-place.ensures c.is_accepted.ensures c.if-is_accepted.false

@@ -1,0 +1,10 @@
+-- `plans::appends::check_append_element` meets its contract.
+-- Assumes nothing.
+use Rattle.verdicts.proofs.Verdicts.{refused-twice, accepted-twice, first-same}
+use Rattle.plans.proofs.appends.check_append_element.Goals as goal
+
+pub returns-then-is_accepted : goal.returns-then-is_accepted
+returns-then-is_accepted c = accepted-twice _ _ _ _ _ _ _ c.two_not_utf8.ensures c.container.ensures c.first-place.ensures c.is_accepted.ensures c.if-is_accepted.true _ (first-same _ _ _ _ _ c.second_root.ensures c.check_name.ensures c.first.ensures)
+
+pub returns-else-is_accepted : goal.returns-else-is_accepted
+returns-else-is_accepted c = refused-twice _ _ _ _ _ _ _ c.two_not_utf8.ensures c.container.ensures c.first-place.ensures c.is_accepted.ensures c.if-is_accepted.false

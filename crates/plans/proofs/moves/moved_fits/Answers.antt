@@ -1,0 +1,17 @@
+-- `plans::moves::moved_fits` meets its contract.
+-- Assumes nothing.
+use native.Mathlib.Omega.{arith}
+use mathlib.Core.Path.{refl}
+use Rattle.memory.specs.Decode.{decode}
+use Rattle.lookup.proofs.Climbing.{parent-none, parent-some}
+use Rattle.plans.proofs.Moved.{fits-detached, fits-same, fits-another}
+use Rattle.plans.proofs.moves.moved_fits.Goals as goal
+
+pub returns-in-None : goal.returns-in-None
+returns-in-None c = fits-detached c.args.d c.args.mem.now c.requires.undamaged c.args.child c.args.parent c.requires.parent_value.0 _ c.word_of.ensures _ (parent-none (decode c.args.d c.args.mem.now) _ _ c.parent_of.ensures c.in-None.is) c.room_fits.ensures
+
+pub returns-then-old-parent : goal.returns-then-old-parent
+returns-then-old-parent c = fits-same c.args.d c.args.mem.now c.requires.undamaged c.args.child c.args.parent c.requires.parent_value.0 _ c.word_of.ensures _ c.requires.parent_value.1 c.requires.parent_value.2 _ (parent-some (decode c.args.d c.args.mem.now) _ _ _ _ c.parent_of.ensures c.in-Of.is refl) (omega arith) (omega arith) c.if-old-parent.true c.room_left.ensures
+
+pub returns-else-old-parent : goal.returns-else-old-parent
+returns-else-old-parent c = fits-another c.args.d c.args.mem.now c.requires.undamaged c.args.child c.args.parent c.requires.parent_value.0 _ c.word_of.ensures _ c.requires.parent_value.1 c.requires.parent_value.2 _ (parent-some (decode c.args.d c.args.mem.now) _ _ _ _ c.parent_of.ensures c.in-Of.is refl) (omega arith) (omega arith) c.if-old-parent.false c.room_fits-else-old-parent.ensures

@@ -1,0 +1,28 @@
+-- `reading::nodes::put_live` meets its contract.
+-- Assumes nothing.
+use mathlib.Core.Path.{sym, ◌∙◌}
+use native.Mathlib.Omega.{arith}
+use Rattle.reading.proofs.Live.{generation-narrow, slot-none, slot-live}
+use Rattle.reading.proofs.nodes.put_live.Goals as goal
+
+pub overflow_mul-out : goal.overflow_mul-out
+overflow_mul-out c =
+    let a = c.args in
+    let n = generation-narrow a.d a.mem.now a.slot.0 c.requires.slot_bound.0 _ c.generation-generation.ensures (sym c.is_live.ensures ∙ c.if-is_live.true) in
+    omega (arith, n)
+
+pub overflow_add-out : goal.overflow_add-out
+overflow_add-out c =
+    let a = c.args in
+    let n = generation-narrow a.d a.mem.now a.slot.0 c.requires.slot_bound.0 _ c.generation-generation.ensures (sym c.is_live.ensures ∙ c.if-is_live.true) in
+    omega (arith, n)
+
+pub returns-then-is_live : goal.returns-then-is_live
+returns-then-is_live c =
+    let a = c.args in
+    record { value = (slot-live a.d a.mem.now a.slot.0 c.requires.slot_bound.0 a.out.now a.count _ c.is_live.ensures c.if-is_live.true _ c.generation-generation.ensures c.requires.slot_bound.1).0; out_after = (slot-live a.d a.mem.now a.slot.0 c.requires.slot_bound.0 a.out.now a.count _ c.is_live.ensures c.if-is_live.true _ c.generation-generation.ensures c.requires.slot_bound.1).1 }
+
+pub returns : goal.returns
+returns c =
+    let a = c.args in
+    record { value = (slot-none a.d a.mem.now a.slot.0 c.requires.slot_bound.0 a.out.now a.count _ c.is_live.ensures c.if-is_live.false).0; out_after = (slot-none a.d a.mem.now a.slot.0 c.requires.slot_bound.0 a.out.now a.count _ c.is_live.ensures c.if-is_live.false).1 }
