@@ -5,4 +5,4 @@ use native.Mathlib.Omega.{arith}
 use Rattle.edits.proofs.storing.chars_of.Goals as goal
 
 pub returns-in-Slot : goal.returns-in-Slot
-returns-in-Slot c = slot-field c.args.field _ c.in-Slot.is (omega (arith, c.known_told-1.given))
+returns-in-Slot c = slot-field c.args.field _ c.in-Slot.is (omega arith)

@@ -6,4 +6,4 @@ use Rattle.structure.proofs.check.check_structure.Goals as goal
 pub returns : goal.returns
 returns c =
     let r = c.check_rules-holds in
-    record { value = r.ensures; scratch_after = cleared-as-long c.args.scratch.now r.new.1.1.0 _ r.auto.scratch c.clear.ensures }
+    record { value = r.ensures; scratch_after = cleared-as-long c.args.scratch.now r.new.scratch _ r.auto.scratch c.clear.ensures }

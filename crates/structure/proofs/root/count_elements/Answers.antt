@@ -13,6 +13,7 @@ use Rattle.entries.specs.Nodes.{decode_nodes}
 use Rattle.structure.specs.Tests.{element_test}
 use Rattle.structure.proofs.RootElement.{entry-resolves, counted_none, counted-yes, counted-no, counted-fits}
 use Rattle.structure.proofs.root.count_elements.Goals as goal
+use Rattle.structure.proofs.root.count_elements.Goals.{then-shows_element, else-shows_element}
 
 pub loop-k-init : goal.loop-k-init
 loop-k-init c =
@@ -45,10 +46,9 @@ loop-k-preserved c =
     let h : c.args.start + i.k < length (arena_in c.args.d children c.args.mem.now).ids =
     omega (arith, c.requires.1, c.loop-k-test.true, length_ids c.args.d c.args.mem.now c.requires.0 children) in (
       omega arith,
-      ⊎_elim
-          (λ w. counted-yes (element_test (decode_nodes c.args.d c.args.mem.now)) (arena_in c.args.d children c.args.mem.now).ids c.args.start i.k i.count _ h c.entry-word.ensures i.invariant.1 _ c.shows_element.ensures _ w.0.taken w.1)
-          (λ w. counted-no (element_test (decode_nodes c.args.d c.args.mem.now)) (arena_in c.args.d children c.args.mem.now).ids c.args.start i.k i.count _ h c.entry-word.ensures i.invariant.1 _ c.shows_element.ensures _ w.0.left w.1)
-          c.if-shows_element.branch,
+      elim c.if-shows_element.branch [
+          then-shows_element w ↦ counted-yes (element_test (decode_nodes c.args.d c.args.mem.now)) (arena_in c.args.d children c.args.mem.now).ids c.args.start i.k i.count _ h c.entry-word.ensures i.invariant.1 _ c.shows_element.ensures _ w.if-shows_element.true w.count-is
+        | else-shows_element w ↦ counted-no (element_test (decode_nodes c.args.d c.args.mem.now)) (arena_in c.args.d children c.args.mem.now).ids c.args.start i.k i.count _ h c.entry-word.ensures i.invariant.1 _ c.shows_element.ensures _ w.if-shows_element.false w.count-is ],
     )
 
 pub returns : goal.returns

@@ -1,0 +1,21 @@
+-- `appending::element::append_checked` meets its contract.
+-- Assumes nothing.
+use mathlib.Core.Path.{refl}
+use Rattle.records.specs.Handles.{word_of}
+use Rattle.model.specs.Calls.{append-element}
+use Rattle.editing.proofs.Editing.{refused-answers, admits, performed-answers}
+use Rattle.appending.proofs.element.append_checked.Goals as goal
+
+pub do_append_element-requires : goal.do_append_element-requires
+do_append_element-requires c =
+    admits (append-element (word_of c.args.parent) c.args.namespace.now c.args.local.now) c.args.d c.args.mem.now c.requires _ c.in-Accepted.is
+    c.plan_append_element.ensures
+
+pub returns-in-Refused : goal.returns-in-Refused
+returns-in-Refused c =
+    refused-answers (append-element (word_of c.args.parent) c.args.namespace.now c.args.local.now) c.args.d c.args.mem.now _ _ c.in-Refused.is
+    c.plan_append_element.ensures
+
+pub returns-in-Accepted : goal.returns-in-Accepted
+returns-in-Accepted c =
+    performed-answers (append-element (word_of c.args.parent) c.args.namespace.now c.args.local.now) c.args.d c.args.mem.now _ _ _ refl c.do_append_element.ensures

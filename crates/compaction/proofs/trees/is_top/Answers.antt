@@ -1,0 +1,18 @@
+-- `compaction::trees::is_top` meets its contract.
+-- Assumes nothing.
+use borrow.Author.Tests.{eq-eqb, ne_eqb}
+use Rattle.compaction.proofs.Reading.{even-live, top-even, top-odd}
+use Rattle.compaction.proofs.trees.is_top.Goals as goal
+
+pub has_no_parent-requires : goal.has_no_parent-requires
+has_no_parent-requires c =
+    (c.requires.0, even-live c.args.d c.args.mem.now c.args.slot.0 c.requires.1 _ c.generation.ensures c.requires.2 (eq-eqb _ _ c.if-even.true))
+
+pub returns-then-even : goal.returns-then-even
+returns-then-even c =
+    let a = c.args in
+    top-even a.d a.mem.now a.slot.0 c.requires.1 _ c.generation.ensures (even-live a.d a.mem.now a.slot.0 c.requires.1 _ c.generation.ensures c.requires.2 (eq-eqb _ _ c.if-even.true)) _ c.has_no_parent.ensures
+
+pub returns-else-even : goal.returns-else-even
+returns-else-even c =
+    top-odd c.args.d c.args.mem.now c.args.slot.0 c.requires.1 _ c.generation.ensures (ne_eqb _ _ c.if-even.false)

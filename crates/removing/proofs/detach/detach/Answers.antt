@@ -1,0 +1,19 @@
+-- `removing::detach::detach` meets its contract.
+-- Assumes nothing.
+use Rattle.records.specs.Handles.{word_of}
+use Rattle.model.specs.Calls.{detach}
+use Rattle.editing.proofs.Editing.{opened, undamaged, not-admitted, edits}
+use Rattle.removing.proofs.detach.detach.Goals as goal
+
+pub detach_checked-requires : goal.detach_checked-requires
+detach_checked-requires c =
+    undamaged c.args.d c.args.mem.now c.args.scratch.now (opened c.args.d c.args.mem.now c.args.scratch.now _ c.in-Accepted.is c.admit.ensures.result_value)
+
+pub returns-in-Refused : goal.returns-in-Refused
+returns-in-Refused c =
+    not-admitted c.args.d c.args.mem.now c.args.scratch.now (detach (word_of c.args.id)) _ _ c.in-Refused.is c.admit.ensures.result_value _ c.admit.ensures.scratch_after
+
+pub returns-in-Accepted : goal.returns-in-Accepted
+returns-in-Accepted c =
+    edits c.args.d c.args.mem.now c.args.scratch.now (detach (word_of c.args.id))
+    (opened c.args.d c.args.mem.now c.args.scratch.now _ c.in-Accepted.is c.admit.ensures.result_value) _ _ _ _ c.detach_checked.ensures c.admit.ensures.scratch_after

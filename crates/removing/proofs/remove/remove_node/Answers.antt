@@ -1,0 +1,12 @@
+-- `removing::remove::remove_node` meets its contract.
+-- Assumes nothing.
+use mathlib.Core.Path.{◌≡◌, ap, ◌∙◌}
+use Prim.Native.Nat.{ℕ}
+use lib.ListN.{length, replicate}
+use borrow.Author.Rules.{rules}
+use Rattle.removing.proofs.remove.remove_node.Goals as goal
+
+pub returns : goal.returns
+returns c =
+    let e : length c.do_remove-document.new.scratch ≡ length c.args.scratch.now = search rules in
+    record { step = c.do_remove-document.ensures; scratch_after = c.clear.ensures ∙ ap (λ (n : ℕ). replicate n 0) e }
