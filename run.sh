@@ -5,7 +5,11 @@ set -euo pipefail
 here=$(cd "$(dirname "$0")" && pwd)
 list=$(realpath "${1:-$here/reference/lists/year.calls}")
 cd "$here"
-[ -x target/bin/replay ] || rt check replay
+if [ ! -x target/bin/replay ]; then
+    (cd crates/replay && rt run </dev/null)
+    mkdir -p target/bin
+    cp crates/replay/out/replay target/bin/replay
+fi
 # Each call stands before its answer; a dump has several lines, the last of them `end`.
 target/bin/replay <"$list" | awk -v list="$list" '
     BEGIN {

@@ -1,4 +1,4 @@
-//! Links the static library that `rt staticlib exports` writes; `OXML_LIB` names its folder where it is another than the repository's.
+//! Links the static library that `bindings/build.sh` writes; `OXML_LIB` names its folder where it is another than the repository's.
 
 use std::env;
 use std::path::{Path, PathBuf};

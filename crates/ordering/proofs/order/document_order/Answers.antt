@@ -1,0 +1,25 @@
+-- `ordering::order::document_order` meets its contract.
+-- Assumes nothing.
+use Rattle.model.specs.Calls.{document-order}
+use Rattle.editing.proofs.Editing.{opened, undamaged, lent-scratch, zero-scratch, cleared-again, not-admitted, edits}
+use Rattle.ordering.proofs.order.document_order.Goals as goal
+
+pub current_order-requires : goal.current_order-requires
+current_order-requires c =
+    let d = c.args.d in
+    let mem = c.args.mem.now in
+    let scratch = c.args.scratch.now in
+    let o = opened d mem scratch _ c.in-Accepted.is c.admit.ensures.result_value in
+    record { scratch_value = (lent-scratch d mem scratch o _ c.admit.ensures.scratch_after, undamaged d mem scratch o); scratch_value_2 = zero-scratch d mem scratch o _ c.admit.ensures.scratch_after }
+
+pub returns-in-Refused : goal.returns-in-Refused
+returns-in-Refused c =
+    not-admitted c.args.d c.args.mem.now c.args.scratch.now document-order _ _ c.in-Refused.is c.admit.ensures.result_value _ c.admit.ensures.scratch_after
+
+pub returns-in-Accepted : goal.returns-in-Accepted
+returns-in-Accepted c =
+    let d = c.args.d in
+    let mem = c.args.mem.now in
+    let scratch = c.args.scratch.now in
+    let o = opened d mem scratch _ c.in-Accepted.is c.admit.ensures.result_value in
+    edits d mem scratch document-order o _ _ _ _ c.current_order.ensures.answers (cleared-again d mem scratch o _ c.admit.ensures.scratch_after _ c.current_order.ensures.scratch_after)
