@@ -1,0 +1,18 @@
+-- `encoding::answer::give_found` meets its contract.
+-- Assumes nothing.
+use mathlib.Core.Path.{ap}
+use Rattle.encoding.specs.Given.{found_record, found_words}
+use Rattle.encoding.proofs.Given.{one_word, given_both, refused-both}
+use Rattle.encoding.proofs.answer.give_found.Goals as goal
+
+pub returns-in-Found : goal.returns-in-Found
+returns-in-Found c =
+    record { value = (given_both c.args.document.now (found_record c.args.answer) c.args.found.now (found_words c.args.answer) _ _ _ _
+    (ap found_record c.in-Found.is) (ap found_words c.in-Found.is) c.put_record.ensures
+    (one_word c.args.found.now _ _ c.truth_word.ensures c.requires.1)).0; document_after = (given_both c.args.document.now (found_record c.args.answer) c.args.found.now (found_words c.args.answer) _ _ _ _
+    (ap found_record c.in-Found.is) (ap found_words c.in-Found.is) c.put_record.ensures
+    (one_word c.args.found.now _ _ c.truth_word.ensures c.requires.1)).1 }
+
+pub returns-in-Refused : goal.returns-in-Refused
+returns-in-Refused c =
+    record { value = (refused-both c.args.document.now (found_record c.args.answer) c.args.found.now (found_words c.args.answer) _ _ (ap found_record c.in-Refused.is) (ap found_words c.in-Refused.is) c.refused.ensures).0; document_after = (refused-both c.args.document.now (found_record c.args.answer) c.args.found.now (found_words c.args.answer) _ _ (ap found_record c.in-Refused.is) (ap found_words c.in-Refused.is) c.refused.ensures).1 }

@@ -1,0 +1,25 @@
+-- `exports::moves::oxml_reparent` meets its contract.
+-- Assumes nothing.
+use Rattle.records.specs.Handles.{word_of}
+use mathlib.Core.List.{[]}
+use Prim.Native.Nat.{ℕ}
+use Rattle.model.specs.Calls.{reparent}
+use Rattle.exports.specs.Contract.{as_done}
+use Rattle.encoding.proofs.Records.{whole}
+use Rattle.exports.proofs.Exporting.{by_word, too_short, does}
+use Rattle.exports.proofs.moves.oxml_reparent.Goals as goal
+
+pub give_done-requires : goal.give_done-requires
+give_done-requires c =
+    (whole c.args.document.now 0 0 _ _ c.lent_record.ensures c.in-Record.is).words
+
+pub returns-in-Short : goal.returns-in-Short
+returns-in-Short c =
+    too_short (reparent c.args.child c.args.parent) 0 as_done c.args.document.now c.args.memory.now c.args.scratch.now [] _ c.lent_record.ensures c.in-Short.is
+
+pub returns-in-Record : goal.returns-in-Record
+returns-in-Record c =
+    does (reparent c.args.child c.args.parent) c.args.document.now c.args.memory.now c.args.scratch.now c.in-Record.d (whole c.args.document.now 0 0 _ _ c.lent_record.ensures c.in-Record.is) _ _ _ _
+    c.reparent-answer.result
+    (by_word (λ (h : ℕ). (reparent c.args.child h)) c.args.parent _ c.id_of-parent_id.ensures _ _ _ _ _ _ _ (by_word (λ (h : ℕ). (reparent h (word_of c.id_of-parent_id.result))) c.args.child _ c.id_of-child_id.ensures _ _ _ _ _ _ _ c.reparent-answer.ensures))
+    c.give_done.ensures.value c.give_done.ensures.document_after

@@ -1,0 +1,24 @@
+-- `exports::read::oxml_root_element` meets its contract.
+-- Assumes nothing.
+use lib.ListN.{length}
+use Rattle.model.specs.Calls.{root-element}
+use Rattle.encoding.specs.Given.{node_words}
+use Rattle.exports.specs.Contract.{as_node}
+use Rattle.encoding.proofs.Records.{whole}
+use Rattle.exports.proofs.Reading.{tells-node, read_short, shows}
+use Rattle.exports.proofs.read.oxml_root_element.Goals as goal
+
+pub give_node-requires : goal.give_node-requires
+give_node-requires c =
+    (whole c.args.document.now (length c.args.answer.now) 2 _ _ c.lent_record.ensures c.in-Record.is).enough
+
+pub returns-in-Short : goal.returns-in-Short
+returns-in-Short c =
+    read_short root-element 2 as_node c.args.document.now c.args.memory.now c.args.answer.now _ c.lent_record.ensures c.in-Short.is
+
+pub returns-in-Record : goal.returns-in-Record
+returns-in-Record c =
+    shows root-element 2 as_node c.args.document.now c.args.memory.now c.args.answer.now c.in-Record.d (whole c.args.document.now (length c.args.answer.now) 2 _ _ c.lent_record.ensures c.in-Record.is) (node_words c.root_element-shown.result) _ _ _
+    (tells-node c.in-Record.d c.args.memory.now c.root_element-shown.result)
+    c.root_element-shown.ensures
+    c.give_node.ensures

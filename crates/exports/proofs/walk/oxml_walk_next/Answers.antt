@@ -1,0 +1,29 @@
+-- `exports::walk::oxml_walk_next` meets its contract.
+-- Assumes nothing.
+use native.Mathlib.Omega.{arith}
+use lib.ListN.{length}
+use Rattle.encoding.proofs.Records.{whole}
+use Rattle.exports.proofs.Walks.{next-few, next-short, next-given}
+use Rattle.exports.proofs.walk.oxml_walk_next.Goals as goal
+
+pub returns-then-answer-lt2 : goal.returns-then-answer-lt2
+returns-then-answer-lt2 c =
+    next-few c.args.document.now c.args.memory.now c.args.position.now c.args.answer.now (omega arith)
+
+pub position_of-at-requires : goal.position_of-at-requires
+position_of-at-requires c =
+    (whole c.args.document.now (length c.args.position.now) 7 _ _ c.lent_record.ensures c.in-Record.is).enough
+
+pub give_next-requires : goal.give_next-requires
+give_next-requires c =
+    ((whole c.args.document.now (length c.args.position.now) 7 _ _ c.lent_record.ensures c.in-Record.is).enough, omega arith)
+
+pub returns-in-Short : goal.returns-in-Short
+returns-in-Short c =
+    next-short c.args.document.now c.args.memory.now c.args.position.now c.args.answer.now _ c.lent_record.ensures c.in-Short.is
+
+pub returns-in-Record : goal.returns-in-Record
+returns-in-Record c =
+    next-given c.args.document.now c.args.memory.now c.args.position.now c.args.answer.now c.in-Record.d
+    (whole c.args.document.now (length c.args.position.now) 7 _ _ c.lent_record.ensures c.in-Record.is) (omega arith) _ c.position_of-at.ensures _ c.next_held-found.ensures _ _ _
+    c.give_next.ensures
