@@ -12,7 +12,7 @@ use borrow.Author.Tests.{lt-ltb, le-ltb, le-leb, lt-leb, leb-true, leb-false}
 use Rattle.words.specs.Lists.{insert_at, index_of, without}
 use Rattle.words.proofs.Parts.{length_part, length-put}
 use Rattle.words.proofs.Lists.{length-insert_at, insert_at-end, length-remove_at, without-remove_at, without-absent}
-use Rattle.blocks.specs.Arena.{Arena, Block, block, Edit, cap_of, list_of, takes, has_room, moved_capacity, unrecorded, inserted, inserted_in_place, inserted_moved, removed, dropped_from}
+use Rattle.blocks.specs.Arena.{Arena, Block, Edit, cap_of, list_of, takes, has_room, moved_capacity, unrecorded, inserted, inserted_in_place, inserted_moved, removed, dropped_from}
 use Rattle.blocks.specs.Rule.{Inside, Shaped}
 use Rattle.blocks.proofs.Capacities.{capacity-least}
 

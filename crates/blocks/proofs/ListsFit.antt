@@ -13,7 +13,7 @@ use Rattle.words.specs.Lists.{all, count_of, sum, tabulate}
 use Rattle.words.proofs.Parts.{length_part, put_same}
 use Rattle.words.proofs.Lists.{count_of-append}
 use Rattle.blocks.specs.Arena.{Arena, Block, block, cap_of, list_of}
-use Rattle.blocks.specs.Rule.{BlocksApart, at}
+use Rattle.blocks.specs.Rule.{BlocksApart}
 use Rattle.blocks.specs.Claims.{ApartBefore, block_claimable, block_claimed, Marked}
 use Rattle.blocks.specs.Compact.{cleared, lay_owners, lengths, Laid}
 use Rattle.blocks.proofs.Lists.{map_same, all-count, count-replicate, sum-append, map-tabulate, tabulate-get_d, twice_there}

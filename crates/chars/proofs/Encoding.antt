@@ -1,7 +1,7 @@
 -- Every Unicode scalar value comes back from its bytes, whatever follows them, and bytes that spell a text are the bytes of its code points.
 -- Assumes nothing.
 use mathlib.Core.Path.{◌≡◌, refl, sym, ap, ◌∙◌}
-use mathlib.Core.Bool.{Bool, true, false, ◌&&◌, and-false, false≢true}
+use mathlib.Core.Bool.{Bool, true, ◌&&◌, and-false, false≢true}
 use mathlib.Core.Logic.{◌⊎◌, inl, inr}
 use mathlib.Core.Option.{Option, none, some}
 use mathlib.Core.List.{List, [], ◌∷◌, ◌++◌}

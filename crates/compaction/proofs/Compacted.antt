@@ -11,7 +11,7 @@ use Rattle.blocks.specs.Arena.{arena_of}
 use Rattle.blocks.proofs.Copies.{decoded-copied}
 use Rattle.model.specs.Kinds.{Which, children, attributes, namespaces}
 use Rattle.model.specs.Doc.{Doc, change_arenas, change_current, change_fits}
-use Rattle.model.specs.Edits.{Laying, laying, rebuilt, rebuild_arenas, renew_order, order_of}
+use Rattle.model.specs.Edits.{Laying, laying, rebuild_arenas, renew_order, order_of}
 use Rattle.model.specs.Calls.{compact, done}
 use Rattle.layout.specs.declared.Document.{Document}
 use Rattle.layout.specs.declared.Limits as given

@@ -24,7 +24,7 @@ use Rattle.model.specs.Edits.{Laying, update_which, lay_list}
 use Rattle.layout.specs.declared.Document.{Document}
 use Rattle.layout.specs.Layout.{limits_of, entries_of, document_words, memory_ok}
 use Rattle.memory.specs.Decode.{kind_of, block_of, loaded_at, slots_part, arena_part, slots_made, arena_used, arena_in, document_of, pool_in, names_in, lengths_add, decode}
-use Rattle.memory.specs.Writing.{put_slots, put_range, set_range, ArenaCopied}
+use Rattle.memory.specs.Writing.{put_range, set_range, ArenaCopied}
 use Rattle.layout.proofs.Sizes.{sizes}
 use Rattle.memory.proofs.Columns.{live_made, live-none, kind-found}
 use Rattle.memory.proofs.Shaped.{length-slots_part, length_ids}

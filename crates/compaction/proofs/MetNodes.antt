@@ -17,7 +17,7 @@ use Rattle.records.specs.Handles.{handle_index, handle_generation}
 use Rattle.records.proofs.Handles.{handle_index-word_of, handle_generation-word_of}
 use Rattle.model.specs.Kinds.{Which, children, which_of, owns}
 use Rattle.model.specs.Doc.{Doc, generation_at, live_slot, handle_at, resolves, kind_in, kind_at, parent_in, parent_at, list_at, is_none}
-use Rattle.model.specs.Rules.{Rules, Ends, top, up}
+use Rattle.model.specs.Rules.{Rules, Ends}
 use Rattle.model.specs.Edits.{walk, rebuilt}
 use Rattle.laws.proofs.Rebuilt.{container-child}
 use Rattle.laws.proofs.Wf.{Distinct}

@@ -1,5 +1,5 @@
 -- What each case of each enum that an editing call answers with is among the answers of the definitions, and the record that the caller has then.
-use Rattle.std.specs.Prelude.{Bool, List, ℕ}
+use Rattle.std.specs.Prelude.{List, ℕ}
 use Rattle.records.specs.Handles.{word_of}
 use Rattle.model.specs.Refusals.{number_of}
 use Rattle.model.specs.Calls.{Answered, refused, done, made, truth, keys}

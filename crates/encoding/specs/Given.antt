@@ -1,10 +1,9 @@
 -- What an answer gives: words for a slice that is lent, or a refusal, after which the slice is as it was.
-use Rattle.std.specs.Prelude.{Bool, List, [], ◌∷◌, ℕ}
+use Rattle.std.specs.Prelude.{List, [], ◌∷◌, ℕ}
 use Rattle.words.specs.Parts.{put}
 use Rattle.records.specs.Handles.{word_of}
 use Rattle.model.specs.Refusals.{number_of}
 use Rattle.model.specs.declared.Refusal.{Refusal}
-use Rattle.layout.specs.declared.Document.{Document}
 use Rattle.tree.specs.declared.start.StartAnswer.{StartAnswer}
 use Rattle.tree.specs.declared.start.StartAnswer.TheVariants as startAnswer
 use Rattle.editing.specs.declared.answers.DoneAnswer.{DoneAnswer}

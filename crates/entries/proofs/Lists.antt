@@ -8,7 +8,7 @@ use native.Mathlib.Numerals.{add-one}
 use native.Mathlib.Decide.{ℕ_discrete}
 use native.Mathlib.Omega.{arith}
 use lib.ListN.{length, get_or}
-use Rattle.words.specs.Lists.{count_of, all, all_below, joined, tabulate}
+use Rattle.words.specs.Lists.{count_of, all, all_below, tabulate}
 use Rattle.words.proofs.Lists.{count_of-append}
 use Rattle.words.proofs.Joined.{joined-append}
 use Rattle.entries.specs.Marks.{gathered}

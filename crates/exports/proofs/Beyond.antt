@@ -10,7 +10,7 @@ use native.Mathlib.Nat.{min-le_right}
 use lib.ListN.{length}
 use lib.Dec.{eqb, leb}
 use borrow.Author.Tests.{ne_eqb, lt-leb}
-use Rattle.blocks.specs.Arena.{Block, block, list_of}
+use Rattle.blocks.specs.Arena.{block, list_of}
 use Rattle.records.specs.declared.Chars.{Chars}
 use Rattle.records.specs.declared.Chars.TheVariants.{Empty, Expanded}
 use Rattle.records.specs.Records.{chars_of}
@@ -18,11 +18,11 @@ use Rattle.texts.proofs.Places.{shown-empty}
 use Rattle.names.specs.Table.{Name, name}
 use Rattle.names.specs.Words.{name_there, name_shown}
 use Rattle.names.proofs.Words.{there-number, part-number}
-use Rattle.model.specs.Kinds.{Which, children, attributes, namespaces}
+use Rattle.model.specs.Kinds.{Which}
 use Rattle.model.specs.Calls.{Answered, name_is, refused, name_of}
 use Rattle.layout.specs.declared.Document.{Document}
 use Rattle.layout.specs.Layout.{limits_of, memory_ok}
-use Rattle.memory.specs.Decode.{slot_of, arena_used, arena_in, text_limits, text_counts, texts_part, name_limits, name_counts, names_part, names_in}
+use Rattle.memory.specs.Decode.{slot_of, arena_used, arena_in, text_limits, text_counts, texts_part, name_limits, name_counts, names_part}
 use Rattle.layout.specs.Record.{used_of}
 use Rattle.layout.proofs.Sizes.{LimitsFit, limits-fit, entries_fit, memory-limits}
 use Rattle.memory.proofs.Shown.{name-shown}

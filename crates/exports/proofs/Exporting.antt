@@ -1,12 +1,11 @@
 -- An exported call's promise from that of the call behind it and what was written.
 -- Assumes nothing.
 use mathlib.Core.Path.{◌≡◌, refl, sym, ap, subst, ◌∙◌}
-use mathlib.Core.Bool.{Bool, true, false, true≢false, false≢true}
+use mathlib.Core.Bool.{Bool, true≢false, false≢true}
 use mathlib.Core.List.{List, [], ◌∷◌}
-use Prim.Native.Nat.{ℕ, ◌+◌, ◌≤◌}
+use Prim.Native.Nat.{ℕ, ◌≤◌}
 use native.Mathlib.Omega.{arith}
 use lib.ListN.{length, take}
-use lib.Dec.{eqb}
 use borrow.Author.Tests.{ne_eqb}
 use Rattle.words.specs.Parts.{part, put}
 use Rattle.words.proofs.Parts.{put-nil, length-put, part-put-same}
@@ -34,11 +33,11 @@ use Rattle.editing.specs.declared.answers.OrderAnswer.{OrderAnswer}
 use Rattle.editing.specs.declared.answers.OrderAnswer.TheVariants as orderAnswer
 use Rattle.editing.proofs.Numbers.{never-zero}
 use Rattle.encoding.specs.declared.record.Lent.{Lent}
-use Rattle.encoding.specs.declared.record.Lent.TheVariants.{Record, Short}
-use Rattle.encoding.specs.Records.{document_of, truth_word, words_of, is_lent, lent_record}
+use Rattle.encoding.specs.declared.record.Lent.TheVariants.{Short}
+use Rattle.encoding.specs.Records.{document_of, truth_word, words_of, lent_record}
 use Rattle.encoding.specs.Given.{status_of, given_to, start_record, done_record, order_record, made_record, made_words, found_record, found_words}
 use Rattle.exports.specs.Contract.{told, Telling, as_done, as_made, as_truth, as_order, Returned, Exported, ExportedStart}
-use Rattle.encoding.proofs.Records.{Whole, not-lent, whole, truth-back, written_back, length-words_of}
+use Rattle.encoding.proofs.Records.{Whole, not-lent, truth-back, written_back, length-words_of}
 
 -- what was put at the front stands there
 pub front : (out vs : List ℕ) → take (length vs) (put 0 vs out) ≡ vs

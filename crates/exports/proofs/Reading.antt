@@ -1,13 +1,11 @@
 -- A reading call's promise from that of the call behind it and what was written.
 -- Assumes nothing.
 use mathlib.Core.Path.{◌≡◌, refl, sym, ap, subst, ◌∙◌}
-use mathlib.Core.Bool.{Bool, true, false, cond, true≢false, false≢true}
-use mathlib.Core.Option.{Option, none, some}
-use mathlib.Core.List.{List, [], ◌∷◌}
-use Prim.Native.Nat.{ℕ, ◌+◌, ◌-◌, ◌≤◌}
+use mathlib.Core.Bool.{Bool, true≢false, false≢true}
+use mathlib.Core.List.{List}
+use Prim.Native.Nat.{ℕ, ◌+◌, ◌-◌}
 use native.Mathlib.Omega.{arith}
 use lib.ListN.{length, take}
-use lib.Dec.{eqb}
 use borrow.Author.Tests.{ne_eqb}
 use Rattle.words.specs.Parts.{put}
 use Rattle.records.specs.declared.NodeId.{NodeId}
@@ -19,12 +17,11 @@ use Rattle.records.specs.Handles.{word_of, id_of}
 use Rattle.records.specs.Records.{chars_word}
 use Rattle.records.proofs.Handles.{word_of-id_of}
 use Rattle.model.specs.Refusals.{number_of}
-use Rattle.model.specs.declared.Refusal.{Refusal}
 use Rattle.model.specs.Kinds.{Which}
 use Rattle.model.specs.Calls.{Call, Answered, refused, truth, name_of}
 use Rattle.layout.specs.declared.Document.{Document}
 use Rattle.memory.specs.Decode.{slot_of}
-use Rattle.reading.specs.Answers.{of_truth, of_node, of_root, of_list, of_key, of_kind, of_name, name_part, text_in}
+use Rattle.reading.specs.Answers.{of_truth, of_node, of_root, of_list, of_key, of_kind, of_name, name_part}
 use Rattle.reading.specs.Contract.{reads}
 use Rattle.reading.specs.declared.answers.TruthAnswer.{TruthAnswer}
 use Rattle.reading.specs.declared.answers.TruthAnswer.TheVariants as truthAnswer
@@ -43,9 +40,9 @@ use Rattle.reading.specs.declared.answers.NameAnswer.TheVariants as nameAnswer
 use Rattle.editing.proofs.Numbers.{never-zero}
 use Rattle.encoding.specs.declared.record.Lent.{Lent}
 use Rattle.encoding.specs.declared.record.Lent.TheVariants.{Short}
-use Rattle.encoding.specs.Records.{document_of, truth_word, lent_record}
+use Rattle.encoding.specs.Records.{document_of, lent_record}
 use Rattle.encoding.specs.Given.{Given, refusal, words, status_of, given_to, root_words, truth_words, node_words, key_words, list_words, name_words, data_words, kind_words}
-use Rattle.exports.specs.Contract.{told, Telling, as_made, as_truth, as_node, as_key, as_list, slot_told, as_kind, as_name, Returned, ExportedRead}
+use Rattle.exports.specs.Contract.{Telling, as_made, as_truth, as_node, as_key, as_list, slot_told, as_kind, as_name, Returned, ExportedRead}
 use Rattle.names.specs.Table.{name}
 use Rattle.exports.proofs.Beyond.{own_name}
 use Rattle.encoding.proofs.Records.{Whole, not-lent, truth-back}

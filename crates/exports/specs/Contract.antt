@@ -1,6 +1,6 @@
 -- What an exported call promises, for all words, slices and numbers: what the call behind it promises, told by the number that is returned and
 -- the words that are written.
-use Rattle.std.specs.Prelude.{◌≡◌, ◌≢◌, Bool, true, false, not, cond, List, [], ℕ, ◌-◌, length, get_or, take, eqb, leb}
+use Rattle.std.specs.Prelude.{◌≡◌, ◌≢◌, true, false, not, cond, List, [], ℕ, ◌-◌, length, get_or, take, eqb, leb}
 use Rattle.std.proofs.Math.Option.{Option, none, some}
 use Rattle.words.specs.Parts.{put}
 use Rattle.model.specs.Calls.{Call, Answered, refused, done, made, truth, node, listed, kind_is, name_is, key, keys, every_node, nodes, step}

@@ -23,12 +23,7 @@ fn read_name(d: Document, memory: &[u64], number: u64) -> NameAnswer
 }
 
 // 1 where the number has a name, else 0. Rules out a name for the number's low half.
-pub fn oxml_name(
-    document: &[u64],
-    memory: &[u64],
-    number: u64,
-    answer: &mut [u64],
-) -> u64
+pub fn oxml_name(document: &[u64], memory: &[u64], number: u64, answer: &mut [u64]) -> u64
     ensures { ExportedRead (name_of number) 1 (as_name number) document.now memory.now answer.old result answer.new }
 {
     match lent_record(document, answer.len(), 1) {
@@ -41,12 +36,7 @@ pub fn oxml_name(
 }
 
 // The handles of all live nodes go to list, which holds as many as the node limit, and their count to answer. Rules out a handle of a free slot.
-pub fn oxml_nodes(
-    document: &[u64],
-    memory: &[u64],
-    list: &mut [u64],
-    answer: &mut [u64],
-) -> u64
+pub fn oxml_nodes(document: &[u64], memory: &[u64], list: &mut [u64], answer: &mut [u64]) -> u64
     ensures { ExportedNodes document.now memory.now list.old answer.old result list.new answer.new }
 {
     match lent_record(document, answer.len(), 1) {

@@ -7,11 +7,7 @@ use encoding::answer::{give_done, give_order};
 use encoding::record::{Lent, lent_record};
 
 // The order is made current; `oxml_order_words` shows it. Rules out words of an order that is not.
-pub fn oxml_document_order(
-    document: &mut [u64],
-    memory: &mut [u64],
-    scratch: &mut [u64],
-) -> u64
+pub fn oxml_document_order(document: &mut [u64], memory: &mut [u64], scratch: &mut [u64]) -> u64
     ensures { Exported document-order 0 as_order document.old memory.old scratch.old [] result document.new memory.new scratch.new [] }
 {
     match lent_record(&document[..], 0, 0) {

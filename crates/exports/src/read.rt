@@ -47,12 +47,7 @@ pub fn oxml_root_element(document: &[u64], memory: &[u64], answer: &mut [u64]) -
 }
 
 // 1 for an element, 0 for any other node. Rules out 1 for a stale handle.
-pub fn oxml_is_element(
-    document: &[u64],
-    memory: &[u64],
-    id: u64,
-    answer: &mut [u64],
-) -> u64
+pub fn oxml_is_element(document: &[u64], memory: &[u64], id: u64, answer: &mut [u64]) -> u64
     ensures { ExportedRead (is-element id) 1 as_truth document.now memory.now answer.old result answer.new }
 {
     match lent_record(document, answer.len(), 1) {
@@ -65,12 +60,7 @@ pub fn oxml_is_element(
 }
 
 // 1 and the position in document order, or 0 and 0. Rules out an old position.
-pub fn oxml_order_key(
-    document: &[u64],
-    memory: &[u64],
-    id: u64,
-    answer: &mut [u64],
-) -> u64
+pub fn oxml_order_key(document: &[u64], memory: &[u64], id: u64, answer: &mut [u64]) -> u64
     ensures { ExportedRead (order-key id) 2 as_key document.now memory.now answer.old result answer.new }
 {
     match lent_record(document, answer.len(), 2) {
@@ -83,12 +73,7 @@ pub fn oxml_order_key(
 }
 
 // The block of a node's children, its start and length; `oxml_entries` shows it in arena 0. Rules out another list's.
-pub fn oxml_children(
-    document: &[u64],
-    memory: &[u64],
-    id: u64,
-    answer: &mut [u64],
-) -> u64
+pub fn oxml_children(document: &[u64], memory: &[u64], id: u64, answer: &mut [u64]) -> u64
     ensures { ExportedRead (children-of id) 2 (as_list children) document.now memory.now answer.old result answer.new }
 {
     match lent_record(document, answer.len(), 2) {
@@ -101,12 +86,7 @@ pub fn oxml_children(
 }
 
 // The block of its attributes, in arena 1. Rules out another list's.
-pub fn oxml_attribute_nodes(
-    document: &[u64],
-    memory: &[u64],
-    id: u64,
-    answer: &mut [u64],
-) -> u64
+pub fn oxml_attribute_nodes(document: &[u64], memory: &[u64], id: u64, answer: &mut [u64]) -> u64
     ensures { ExportedRead (attribute-nodes id) 2 (as_list attributes) document.now memory.now answer.old result answer.new }
 {
     match lent_record(document, answer.len(), 2) {
@@ -119,12 +99,7 @@ pub fn oxml_attribute_nodes(
 }
 
 // The block of its namespaces, in arena 2. Rules out another list's.
-pub fn oxml_namespace_nodes(
-    document: &[u64],
-    memory: &[u64],
-    id: u64,
-    answer: &mut [u64],
-) -> u64
+pub fn oxml_namespace_nodes(document: &[u64], memory: &[u64], id: u64, answer: &mut [u64]) -> u64
     ensures { ExportedRead (namespace-nodes id) 2 (as_list namespaces) document.now memory.now answer.old result answer.new }
 {
     match lent_record(document, answer.len(), 2) {

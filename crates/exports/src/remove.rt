@@ -32,12 +32,7 @@ pub fn oxml_remove_attribute(
 }
 
 // A node goes, with all below it. Rules out a handle below it that resolves then.
-pub fn oxml_remove(
-    document: &mut [u64],
-    memory: &mut [u64],
-    scratch: &mut [u64],
-    id: u64,
-) -> u64
+pub fn oxml_remove(document: &mut [u64], memory: &mut [u64], scratch: &mut [u64], id: u64) -> u64
     ensures { Exported (remove id) 0 as_done document.old memory.old scratch.old [] result document.new memory.new scratch.new [] }
 {
     match lent_record(&document[..], 0, 0) {
@@ -51,12 +46,7 @@ pub fn oxml_remove(
 }
 
 // A node leaves its parent. Rules out a node that is freed.
-pub fn oxml_detach(
-    document: &mut [u64],
-    memory: &mut [u64],
-    scratch: &mut [u64],
-    id: u64,
-) -> u64
+pub fn oxml_detach(document: &mut [u64], memory: &mut [u64], scratch: &mut [u64], id: u64) -> u64
     ensures { Exported (detach id) 0 as_done document.old memory.old scratch.old [] result document.new memory.new scratch.new [] }
 {
     match lent_record(&document[..], 0, 0) {

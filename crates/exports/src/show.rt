@@ -109,12 +109,7 @@ pub fn oxml_entries(
 }
 
 // The bytes of a text that `oxml_kind` told, one a word. Rules out those of another.
-pub fn oxml_text_bytes(
-    document: &[u64],
-    memory: &[u64],
-    text: u64,
-    out: &mut [u64],
-) -> u64
+pub fn oxml_text_bytes(document: &[u64], memory: &[u64], text: u64, out: &mut [u64]) -> u64
     ensures { ExportedShow document.now (text_bytes (document_of document.now) memory.now (slot_told text)) out.old result out.new }
 {
     match lent_record(document, 0, 0) {
@@ -124,12 +119,7 @@ pub fn oxml_text_bytes(
 }
 
 // The namespace of a name, one byte a word. Rules out its local part.
-pub fn oxml_namespace_bytes(
-    document: &[u64],
-    memory: &[u64],
-    number: u64,
-    out: &mut [u64],
-) -> u64
+pub fn oxml_namespace_bytes(document: &[u64], memory: &[u64], number: u64, out: &mut [u64]) -> u64
     ensures { ExportedShow document.now (name_bytes (document_of document.now) memory.now number 0) out.old result out.new }
 {
     match lent_record(document, 0, 0) {
@@ -139,12 +129,7 @@ pub fn oxml_namespace_bytes(
 }
 
 // The local part of a name, one byte a word. Rules out its namespace.
-pub fn oxml_local_bytes(
-    document: &[u64],
-    memory: &[u64],
-    number: u64,
-    out: &mut [u64],
-) -> u64
+pub fn oxml_local_bytes(document: &[u64], memory: &[u64], number: u64, out: &mut [u64]) -> u64
     ensures { ExportedShow document.now (name_bytes (document_of document.now) memory.now number 1) out.old result out.new }
 {
     match lent_record(document, 0, 0) {

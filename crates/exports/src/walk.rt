@@ -7,12 +7,7 @@ use encoding::record::{Lent, lent_record};
 use records::handle::id_of;
 
 // A walk below the zone begins: seven words go to position. Rules out a refusal of a handle that is stale.
-pub fn oxml_descendants_of(
-    document: &[u64],
-    memory: &[u64],
-    zone: u64,
-    position: &mut [u64],
-) -> u64
+pub fn oxml_descendants_of(document: &[u64], memory: &[u64], zone: u64, position: &mut [u64]) -> u64
     ensures { ExportedWalk zone document.now memory.now position.old result position.new }
 {
     match lent_record(document, position.len(), 7) {

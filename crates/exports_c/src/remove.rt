@@ -15,7 +15,9 @@ pub extern "C" fn oxml_remove_attribute(
 ) -> u64
     ensures { Exported (remove-attribute element namespace.now local.now) 1 as_truth document.old memory.old scratch.old found.old result document.new memory.new scratch.new found.new }
 {
-    exports::remove::oxml_remove_attribute(document, memory, scratch, element, namespace, local, found)
+    exports::remove::oxml_remove_attribute(
+        document, memory, scratch, element, namespace, local, found,
+    )
 }
 
 #[unsafe(no_mangle)]

@@ -14,7 +14,6 @@ use Rattle.texts.specs.Words.{Counted, PushedTo, ReclaimedTo}
 use Rattle.texts.specs.Words as lower
 use Rattle.texts.proofs.Words.{pool-slots, pool-free}
 use Rattle.texts.specs.declared.TextCounts.{TextCounts}
-use Rattle.records.specs.declared.NodeData.TheVariants as given
 use Rattle.memory.proofs.Counted.{counts-fit}
 use Rattle.layout.specs.declared.Document.{Document}
 use Rattle.layout.specs.Layout.{limits_of, memory_ok}

@@ -9,7 +9,6 @@ use lib.ListN.{length, length-append}
 use lib.Dec.{eqb}
 use Rattle.words.specs.Lists.{count_of}
 use Rattle.texts.specs.Pool.{Pool, pushed, reclaimed}
-use Rattle.texts.specs.Words as lower
 use Rattle.releasing.proofs.Released.{reclaimed-pushed}
 use Rattle.records.specs.declared.Chars.{Chars}
 use Rattle.records.specs.declared.Chars.TheVariants.{Empty, Expanded}

@@ -1,6 +1,6 @@
 -- A call on the document is never refused 4 or 5: those are tested before it; and 6 only where S, that a handle of it is stale.
 -- Assumes nothing.
-use mathlib.Core.Path.{◌≡◌, refl, sym, ap, ◌∙◌}
+use mathlib.Core.Path.{◌≡◌, refl, ap}
 use mathlib.Core.Logic.{◌≢◌}
 use mathlib.Core.Bool.{Bool, true, false, not, cond, ◌&&◌, true≢false}
 use mathlib.Core.Option.{Option, none, some}
@@ -13,7 +13,7 @@ use Rattle.chars.specs.Checks.{number_of, on_text, on_texts, of_text, check_pref
 use Rattle.chars.specs.Classes.{class_of, is_nc_name}
 use Rattle.words.specs.Lists.{all}
 use Rattle.names.specs.Table.{Name, name}
-use Rattle.model.specs.Kinds.{Kind, root, element, attribute, text, comment, namespace, instruction, children, attributes, namespaces, child_kind, is_container, is_element, is_root, text_of, map_kind}
+use Rattle.model.specs.Kinds.{Kind, root, element, attribute, text, comment, namespace, instruction, children, attributes, namespaces, is_container, is_element, is_root, text_of, map_kind}
 use Rattle.model.specs.Resolving.{handles_of}
 use Rattle.model.specs.Doc.{Doc, node_at, resolves, is_none, is_some, any_option, view_at, on_path, kind_at, bytes_at, range_in, no_key}
 use Rattle.records.specs.Handles.{handle_index}
@@ -23,7 +23,7 @@ use Rattle.blocks.specs.Arena.{Block, block}
 use lib.ListN.{length, get_or}
 use Rattle.model.specs.Arguments.{refuse_if, first, is_utf8, not_utf8, name_check, namespace_check, binding_check, prefix_check, text_check, comment_check, instruction_check, space_only, is_xmlns}
 use Rattle.model.specs.Checks.{View, container, an_element, a_child, a_text, text_under, moved_text, stored_text, is_empty, check_append_element, check_append_text, check_append_comment, check_append_pi, check_set_text, check_remove, check_move, undeclares_prefix}
-use Rattle.model.specs.Calls.{Answered, refused, done, made, truth, node, listed, every_node, kind_is, name_is, key, keys, Out, answers, guarded, full_unless, step, set_attribute_found, declare_namespace_found, remove_attribute_found, find_attribute, find_namespace, order_key, key_of, shown_kind, append_one_text, move_to, root_taken, under_root, name_fits_in, text_fits, two_fit, node_fits, room_fits, replacement_fits, replaceable_at}
+use Rattle.model.specs.Calls.{Answered, refused, done, made, truth, node, listed, every_node, kind_is, name_is, key, keys, Out, guarded, full_unless, step, set_attribute_found, declare_namespace_found, remove_attribute_found, find_attribute, find_namespace, order_key, key_of, shown_kind, append_one_text, move_to, root_taken, under_root, name_fits_in, text_fits, two_fit, node_fits, room_fits, replacement_fits, replaceable_at}
 use Rattle.model.specs.Calls.{Call, append-element, append-text, append-comment, append-pi, set-text, set-attribute, remove-attribute, declare-namespace, remove, detach, reparent, insert-at, document-order, compact, root-of, kind-of, parent-of, children-of, root-element, is-element, name_of, attribute-nodes, namespace-nodes, nodes, order-key}
 
 -- a number that is neither 4 nor 5, and 6 only where S

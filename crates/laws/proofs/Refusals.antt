@@ -1,13 +1,13 @@
 -- A call that is refused changes nothing.
 -- Assumes nothing.
 use mathlib.Core.Path.{◌≡◌, refl}
-use mathlib.Core.Bool.{Bool, true, false, cond, false≢true}
+use mathlib.Core.Bool.{Bool, true, false, false≢true}
 use mathlib.Core.Option.{Option, none, some}
 use mathlib.Core.List.{List}
 use Prim.Native.Nat.{ℕ, zero, suc}
 use Rattle.names.specs.Table.{Name, name}
 use Rattle.model.specs.Doc.{Doc}
-use Rattle.model.specs.Calls.{Answered, is_refusal, refused, done, made, truth, node, listed, every_node, kind_is, name_is, key, keys, Out, guarded, step, set_attribute_found, declare_namespace_found, remove_attribute_found, find_attribute, find_namespace}
+use Rattle.model.specs.Calls.{is_refusal, Out, guarded, step, set_attribute_found, declare_namespace_found, remove_attribute_found, find_attribute, find_namespace}
 use Rattle.model.specs.Calls.{Call, append-element, append-text, append-comment, append-pi, set-text, set-attribute, remove-attribute, declare-namespace, remove, detach, reparent, insert-at, document-order, compact, root-of, kind-of, parent-of, children-of, root-element, is-element, name_of, attribute-nodes, namespace-nodes, nodes, order-key}
 
 guarded-keeps : (n : ℕ) (d : Doc) (o : Out) → (is_refusal o.answer ≡ true → o.doc ≡ d) → is_refusal (guarded n d o).answer ≡ true → (guarded n d o).doc ≡ d

@@ -1,16 +1,15 @@
 -- Calls answer 6 just where a handle does not resolve.
 -- Assumes nothing.
-use mathlib.Core.Path.{◌≡◌, refl, sym, ap, ◌∙◌}
+use mathlib.Core.Path.{◌≡◌, sym, ap, ◌∙◌}
 use mathlib.Core.Logic.{◌≢◌}
-use mathlib.Core.Bool.{Bool, true, false, cond, false≢true}
+use mathlib.Core.Bool.{Bool, cond, false≢true}
 use mathlib.Core.Option.{none, some}
 use Prim.Native.Nat.{ℕ}
 use native.Mathlib.Omega.{arith}
-use Rattle.words.specs.Lists.{all}
-use Rattle.model.specs.Doc.{Doc, resolves, node_at}
+use Rattle.model.specs.Doc.{Doc, node_at}
 use Rattle.model.specs.Checks.{check_remove}
-use Rattle.model.specs.Calls.{Call, Answered, refused, done, made, truth, node, listed, every_node, kind_is, name_is, key, keys, answers, guarded, removed, remove, step}
-use Rattle.model.specs.Resolving.{handles_of, ResolvesAsAnswered}
+use Rattle.model.specs.Calls.{Answered, refused, done, made, truth, node, listed, every_node, kind_is, name_is, key, keys, answers, guarded, removed, step}
+use Rattle.model.specs.Resolving.{ResolvesAsAnswered}
 use Rattle.laws.proofs.RefusalNumbers.{Tested, tested}
 
 not-six : {S : Type 0} → (a : Answered) → Tested S a → (S → ⊥) → a ≢ refused 6

@@ -1,20 +1,18 @@
 -- The relation looks at the handles of births made so far only: another handle for a birth to come keeps it.
 -- Assumes nothing.
 use mathlib.Core.Path.{◌≡◌, refl, sym, ap, ap₂, ◌∙◌, subst}
-use mathlib.Core.Logic.{◌≢◌, ◌⊎◌, inl, inr}
-use mathlib.Core.Bool.{Bool, true, false}
+use mathlib.Core.Logic.{◌⊎◌, inl, inr}
+use mathlib.Core.Bool.{true}
 use mathlib.Core.Option.{Option, none, some}
 use mathlib.Core.List.{List, [], ◌∷◌, map, Memᴰ}
 use Prim.Native.Nat.{ℕ, ◌<◌}
 use native.Mathlib.Omega.{arith}
-use lib.ListN.{length, get_or}
-use Rattle.records.specs.Handles.{handle_index, handle_generation}
-use Rattle.model.specs.Doc.{Doc, live_slot, generation_at, node_at, parent_at, list_at, map_option, kind_at, no_key}
+use Rattle.records.specs.Handles.{handle_index}
+use Rattle.model.specs.Doc.{Doc, map_option, kind_at}
 use Rattle.model.specs.Kinds.{names_of}
-use Rattle.model.specs.Calls.{key_of}
-use Rattle.model.specs.Tree.{Tree, key_in}
+use Rattle.model.specs.Tree.{Tree}
 use Rattle.laws.proofs.Wf.{WF}
-use Rattle.laws.proofs.Sim.{Sim, Pooled, Unrepeated, fields}
+use Rattle.laws.proofs.Sim.{Sim, Pooled, fields}
 
 map_same : (f g : ℕ → ℕ) (l : List ℕ) → ((x : ℕ) → Memᴰ x l → f x ≡ g x) → map f l ≡ map g l
 map_same f g [] h = refl

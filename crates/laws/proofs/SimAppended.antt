@@ -1,20 +1,20 @@
 -- A new node at the end of a list: a birth, then its entry.
 -- Assumes nothing.
-use mathlib.Core.Path.{◌≡◌, refl, sym, ap, ap₂, ◌∙◌, subst}
+use mathlib.Core.Path.{◌≡◌, refl, sym, ap, ◌∙◌, subst}
 use mathlib.Core.Logic.{◌≢◌}
-use mathlib.Core.Bool.{true, false, true≢false}
+use mathlib.Core.Bool.{true, true≢false}
 use mathlib.Core.Option.{Option}
 use mathlib.Core.List.{List, [], ◌∷◌, Memᴰ}
-use Prim.Native.Nat.{ℕ, ◌<◌}
+use Prim.Native.Nat.{ℕ}
 use native.Mathlib.Omega.{arith}
-use lib.ListN.{length, get_or, length-map}
+use lib.ListN.{length, length-map}
 use lib.Seq.{get_or-set_other}
-use Rattle.blocks.specs.Arena.{Arena, Block, block, has_room}
+use Rattle.blocks.specs.Arena.{block, has_room}
 use Rattle.records.specs.Handles.{handle_index}
 use Rattle.texts.specs.Pool.{Pool}
 use Rattle.names.specs.Table.{Name}
 use Rattle.model.specs.Kinds.{Kind, Which, owns}
-use Rattle.model.specs.Doc.{Doc, generation_at, even, range_in, list_at}
+use Rattle.model.specs.Doc.{Doc, generation_at, even, list_at}
 use Rattle.model.specs.Edits.{next_handle, born_from, born, attach}
 use Rattle.model.specs.Calls.{room_fits, slot_fits, appended}
 use Rattle.model.specs.Tree.{Tree}

@@ -14,7 +14,7 @@ use Rattle.words.specs.Parts.{part}
 use Rattle.words.specs.Lists.{insert_at, without, index_of}
 use Rattle.words.proofs.Parts.{get_d_part, part-put-same, get_d-put-before, get_d-put-after}
 use Rattle.words.proofs.Lists.{map-insert_at, map-without}
-use Rattle.blocks.specs.Arena.{Arena, Block, block, Edit, cap_of, list_of, moved_capacity, unrecorded, has_room, inserted, removed}
+use Rattle.blocks.specs.Arena.{Arena, Block, Edit, cap_of, list_of, moved_capacity, unrecorded, has_room, inserted, removed}
 use Rattle.blocks.specs.Rule.{Shaped, Inside, Edited}
 use Rattle.blocks.proofs.Edits.{inserted-in-place, inserted-moved, removed-there, removed-absent, block-fits}
 use Rattle.blocks.proofs.Insertion.{insert-promise}

@@ -1,38 +1,35 @@
 -- The calls that make a node are the plain tree's.
 -- Assumes nothing.
-use mathlib.Core.Path.{◌≡◌, refl, sym, ap, ap₂, ◌∙◌, subst}
-use mathlib.Core.Logic.{◌≢◌, ◌⊎◌, inl, inr}
+use mathlib.Core.Path.{◌≡◌, refl, sym, ap, ◌∙◌, subst}
+use mathlib.Core.Logic.{inr}
 use mathlib.Core.Bool.{Bool, true, false, not, cond, ◌&&◌, false≢true, true≢false}
 use mathlib.Core.Option.{Option, none, some}
-use mathlib.Core.List.{List, [], ◌∷◌, ◌++◌, map}
+use mathlib.Core.List.{List, [], ◌∷◌}
 use Prim.Native.Nat.{ℕ, zero, suc, ◌<◌}
 use native.Mathlib.Omega.{arith}
-use lib.ListN.{length, get_or, length-map}
-use lib.Seq.{get_or-set_other}
+use lib.ListN.{length}
 use Rattle.words.proofs.Tests.{and_left, and_right}
-use Rattle.blocks.specs.Arena.{Block, block, has_room}
-use Rattle.records.specs.Handles.{handle_index}
 use Rattle.texts.specs.Pool.{Pool, stored_slot, stored, slots_for}
 use Rattle.names.specs.Table.{Name, name, number_of, interned}
-use Rattle.model.specs.Kinds.{Kind, root, element, attribute, text, comment, namespace, instruction, Which, children, is_container, is_element, is_root, owns, which_of}
-use Rattle.model.specs.Doc.{Doc, range_in, live_slot, list_at, view_at, any_option}
-use Rattle.model.specs.Edits.{born, born_from, next_handle, attach}
+use Rattle.model.specs.Kinds.{Kind, element, text, comment, instruction, Which, children, is_container, is_element, is_root, owns, which_of}
+use Rattle.model.specs.Doc.{Doc}
+use Rattle.model.specs.Edits.{next_handle}
 use Rattle.model.specs.Arguments.{first, refuse_if, not_utf8, name_check, namespace_check, comment_check, instruction_check}
 use Rattle.model.specs.Checks.{container, text_under, check_append_element, check_append_text, check_append_comment, check_append_pi}
 use Rattle.model.specs.Calls.{Answered, made, done, step, answers, guarded, full_unless, slot_fits, room_fits, node_fits, text_fits, two_fit, name_fits_in, appended, appends, with_two, stored_two, root_taken, other_than, append-element, append-text, append-comment, append-pi}
 use Rattle.model.specs.Calls as calls
 use Rattle.model.specs.Tree.{Tree, means}
 use Rattle.model.specs.Tree as tree
-use Rattle.laws.specs.Claim.{no_step, handle_told_from, tree_after}
+use Rattle.laws.specs.Claim.{no_step, handle_told_from}
 use Rattle.laws.proofs.Wf.{WF}
 use Rattle.laws.proofs.Sim.{Sim}
-use Rattle.laws.proofs.Basics.{by-handle, means-live, live-below, odd-not-live, get_d-snoc-other, update_other}
+use Rattle.laws.proofs.Basics.{by-handle, means-live}
 use Rattle.laws.proofs.Stores.{Stores, stores-element, stores-text, stores-comment, stores-instruction}
 use Rattle.laws.proofs.SimAppended.{sim-appended}
 use Rattle.laws.proofs.NestedEdits.{NoRootElement}
 use Rattle.laws.proofs.WfEdits.{wf-appended, untaken}
 use Rattle.laws.proofs.Views.{view-live, taken-agrees}
-use Rattle.laws.proofs.Guards.{stale-refused, Plain, guarded-same, guarded-full, first-zero, refuse-zero, not-false-true}
+use Rattle.laws.proofs.Guards.{stale-refused, Plain, guarded-full, first-zero, refuse-zero, not-false-true}
 use Rattle.laws.proofs.Runs.{Told}
 
 module _ (d : Doc) (t : Tree) (hs : ℕ → ℕ) (S : Sim d t hs) (W : WF t) where

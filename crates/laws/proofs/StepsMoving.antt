@@ -1,26 +1,26 @@
 -- `detach`, `reparent` and `insert_at` are the plain tree's.
 -- Assumes nothing.
 use mathlib.Core.Path.{◌≡◌, refl, sym, ap, ◌∙◌, subst}
-use mathlib.Core.Logic.{◌≢◌, ◌⊎◌, inl, inr}
+use mathlib.Core.Logic.{inr}
 use mathlib.Core.Bool.{Bool, true, false, not, cond, ◌&&◌}
 use mathlib.Core.Option.{Option, none, some}
-use mathlib.Core.List.{List, map, Memᴰ}
+use mathlib.Core.List.{List}
 use Prim.Native.Nat.{ℕ}
 use native.Mathlib.Omega.{arith}
 use lib.ListN.{length, length-map}
 use Rattle.names.specs.Table.{Name}
-use Rattle.model.specs.Kinds.{Kind, children, is_container, is_element, is_root, child_kind, text_of}
-use Rattle.model.specs.Doc.{Doc, view_at, or_else, list_at, on_path, any_option}
+use Rattle.model.specs.Kinds.{Kind, children, is_container, is_element, is_root, child_kind}
+use Rattle.model.specs.Doc.{Doc, or_else, list_at}
 use Rattle.model.specs.Edits.{unhook, attach}
 use Rattle.model.specs.Arguments.{first, refuse_if}
-use Rattle.model.specs.Checks.{View, check_move, check_detach, a_child, container, moved_text, stored_text}
-use Rattle.model.specs.Calls.{step, guarded, answers, done, move_to, room_fits, root_taken, other_than, full_unless, detach, reparent, insert-at}
+use Rattle.model.specs.Checks.{check_move}
+use Rattle.model.specs.Calls.{step, answers, done, move_to, room_fits, other_than, detach, reparent, insert-at}
 use Rattle.model.specs.Tree.{Tree, means, view, above}
 use Rattle.model.specs.Tree as tree
 use Rattle.laws.proofs.Wf.{WF}
 use Rattle.laws.proofs.Sim.{Sim}
 use Rattle.laws.proofs.Basics.{by-handle, means-live}
-use Rattle.laws.proofs.Views.{view-live, view-agrees, taken-by-other}
+use Rattle.laws.proofs.Views.{view-live, taken-by-other}
 use Rattle.laws.proofs.Cycle.{cycle-agrees}
 use Rattle.laws.proofs.SimEdits.{sim-attach, sim-unhook}
 use Rattle.laws.proofs.Unhook.{unhook-live, unhook-kind}

@@ -1,7 +1,7 @@
 -- `document_order` and `compact` are the plain tree's.
 -- Assumes nothing.
 use mathlib.Core.Path.{◌≡◌, refl, sym, ap, ◌∙◌, subst}
-use mathlib.Core.Logic.{◌⊎◌, inl, inr}
+use mathlib.Core.Logic.{inr}
 use mathlib.Core.Bool.{Bool, true, false, cond}
 use mathlib.Core.Option.{Option, none, some}
 use mathlib.Core.List.{List, [], ◌∷◌}
@@ -9,15 +9,15 @@ use Prim.Native.Nat.{ℕ, zero, suc, ◌≤◌, ◌<◌}
 use native.Mathlib.Omega.{arith}
 use borrow.Author.Tests.{ltb-false}
 use lib.Dec.{ltb}
-use lib.ListN.{length, get_or, take, length-take}
+use lib.ListN.{length, get_or, take}
 use lib.Seq.{get_or-take, length-take-le}
 use Rattle.records.specs.Handles.{handle_index}
-use Rattle.model.specs.Doc.{Doc, no_key, or_else, live_slot}
-use Rattle.model.specs.Edits.{renew_order, rebuild_arenas}
+use Rattle.model.specs.Doc.{Doc, no_key, or_else}
+use Rattle.model.specs.Edits.{renew_order}
 use Rattle.model.specs.Calls.{step, key_of, keys, done, answers, document-order, compact}
 use Rattle.model.specs.Tree.{Tree, key_in, set_current}
 use Rattle.model.specs.Tree as tree
-use Rattle.laws.specs.Claim.{Agrees, KeysAgree}
+use Rattle.laws.specs.Claim.{KeysAgree}
 use Rattle.laws.proofs.Wf.{WF}
 use Rattle.laws.proofs.Sim.{Sim}
 use Rattle.laws.proofs.Basics.{birth-below}

@@ -1,26 +1,26 @@
 -- The reading calls answer as the plain tree does.
 -- Assumes nothing.
-use mathlib.Core.Path.{◌≡◌, refl, sym, ap, ap₂, ◌∙◌, subst}
-use mathlib.Core.Logic.{◌⊎◌, inl, inr}
+use mathlib.Core.Path.{◌≡◌, refl, sym, ap, ◌∙◌}
+use mathlib.Core.Logic.{inr}
 use mathlib.Core.Bool.{Bool, true, false, cond, false≢true, true≢false}
 use mathlib.Core.Option.{Option, none, some}
 use mathlib.Core.List.Memᴰ
-use mathlib.Core.List.{List, [], ◌∷◌, ◌++◌, map, Memᴰ}
+use mathlib.Core.List.{List, [], ◌∷◌, ◌++◌, Memᴰ}
 use Prim.Native.Nat.{ℕ, zero, suc, ◌<◌}
 use native.Mathlib.Omega.{arith}
 use native.Mathlib.Decide.{ℕ_discrete}
 use lib.ListN.{length, get_or}
-use Rattle.words.specs.Lists.{tabulate, joined}
-use Rattle.blocks.specs.Arena.{Block, block}
+use Rattle.words.specs.Lists.{tabulate}
+use Rattle.blocks.specs.Arena.{block}
 use Rattle.records.specs.Handles.{handle_index}
 use Rattle.names.specs.Table.{Name}
 use Rattle.model.specs.Kinds.{Kind, root, element, attribute, text, comment, namespace, instruction, Which, children, attributes, namespaces, map_kind, is_element}
-use Rattle.model.specs.Doc.{Doc, resolves, live_slot, handle_at, live_nodes, kind_at, parent_at, pair_at, bytes_at, node_at, view_at, map_option, shown_list, shown_block, range_in, no_key, root_handle}
-use Rattle.model.specs.Calls.{Answer, refused, made, truth, node, listed, every_node, kind_is, key, Answered, key_of, order_key, shown_kind, step, answers}
+use Rattle.model.specs.Doc.{Doc, resolves, live_slot, handle_at, live_nodes, kind_at, pair_at, bytes_at, node_at, view_at, shown_list, range_in, no_key}
+use Rattle.model.specs.Calls.{Answer, refused, made, truth, node, listed, kind_is, key, key_of, shown_kind, step}
 use Rattle.model.specs.Calls.{root-of, kind-of, parent-of, children-of, root-element, is-element, name_of, attribute-nodes, namespace-nodes, nodes, order-key}
 use Rattle.model.specs.Tree.{Tree, means, view, key_in}
 use Rattle.model.specs.Tree as tree
-use Rattle.laws.specs.Claim.{Agrees, SameNodes, shown, through_handles}
+use Rattle.laws.specs.Claim.{shown, through_handles}
 use Rattle.laws.proofs.Wf.{WF}
 use Rattle.laws.proofs.Sim.{Sim}
 use Rattle.laws.proofs.Membership.{mem-joined, mem-joined-cases}

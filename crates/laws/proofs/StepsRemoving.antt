@@ -1,7 +1,7 @@
 -- `remove` and `remove_attribute` are the plain tree's.
 -- Assumes nothing.
-use mathlib.Core.Path.{◌≡◌, refl, sym, ap, ◌∙◌}
-use mathlib.Core.Logic.{◌≢◌, ◌⊎◌, inl, inr}
+use mathlib.Core.Path.{◌≡◌, refl, ap, ◌∙◌}
+use mathlib.Core.Logic.{◌≢◌, inr}
 use mathlib.Core.Bool.{Bool, true, false}
 use mathlib.Core.Option.{Option, none, some}
 use mathlib.Core.List.{List, [], ◌∷◌}
@@ -9,12 +9,11 @@ use Prim.Native.Nat.{ℕ}
 use native.Mathlib.Omega.{arith}
 use Rattle.words.specs.Lists.{find}
 use Rattle.names.specs.Table.{Name, name, same_name}
-use Rattle.model.specs.Kinds.{Kind, root, element, attribute, text, comment, namespace, instruction, attributes, is_element, is_root, attribute_name}
-use Rattle.model.specs.Doc.{Doc, view_at, any_option, map_option}
-use Rattle.model.specs.Edits.{unhook, free_all, subtree}
+use Rattle.model.specs.Kinds.{Kind, root, element, attribute, text, comment, namespace, instruction, attributes, is_root, attribute_name}
+use Rattle.model.specs.Doc.{Doc, any_option, map_option}
 use Rattle.model.specs.Arguments.{first, refuse_if, not_utf8}
-use Rattle.model.specs.Checks.{an_element, check_remove_attribute}
-use Rattle.model.specs.Calls.{step, answers, done, truth, removed, remove_attribute, remove_attribute_found, find_attribute, remove, remove-attribute}
+use Rattle.model.specs.Checks.{check_remove_attribute}
+use Rattle.model.specs.Calls.{step, answers, done, removed, remove_attribute_found, remove, remove-attribute}
 use Rattle.model.specs.Tree.{Tree, means}
 use Rattle.model.specs.Tree as tree
 use Rattle.laws.proofs.Wf.{WF}
@@ -27,7 +26,7 @@ use Rattle.laws.proofs.Views.{view-live, find-attribute-agrees, listed-live}
 use Rattle.laws.proofs.SimEdits.{sim-unhook}
 use Rattle.laws.proofs.Gone.{sim-gone}
 use Rattle.laws.proofs.WfEdits.{wf-removed, not_root}
-use Rattle.laws.proofs.Guards.{stale-refused, Plain, guarded-same, first-zero, refuse-zero}
+use Rattle.laws.proofs.Guards.{stale-refused, Plain, guarded-same, refuse-zero}
 
 -- an attribute is not the Root
 pub named-not-root : {N T : Type 0} (q : N → Bool) (k : Kind N T) → any_option q (attribute_name k) ≡ true → is_root k ≡ false

@@ -1,7 +1,7 @@
 -- `set_text`, `set_attribute` and `declare_namespace` are the plain tree's.
 -- Assumes nothing.
 use mathlib.Core.Path.{◌≡◌, refl, sym, ap, ◌∙◌, subst}
-use mathlib.Core.Logic.{◌≢◌, ◌⊎◌, inl, inr}
+use mathlib.Core.Logic.{◌≢◌, inr}
 use mathlib.Core.Bool.{Bool, true, false, not, cond, ◌&&◌, false≢true, true≢false}
 use mathlib.Core.Option.{Option, none, some}
 use mathlib.Core.List.{List, [], ◌∷◌, ◌++◌, map}
@@ -14,11 +14,11 @@ use Rattle.words.proofs.Tests.{and_left, and_right}
 use Rattle.texts.specs.Pool.{Pool, stored_slot, stored, slots_for}
 use Rattle.words.specs.Pieces.{same_bytes}
 use Rattle.names.specs.Table.{Name, name, same_name, number_of, interned}
-use Rattle.model.specs.Kinds.{Kind, root, element, attribute, text, comment, namespace, instruction, Which, children, attributes, namespaces, is_element, is_root, owns, which_of, text_of, attribute_name, prefix_of, replaceable}
-use Rattle.model.specs.Doc.{Doc, view_at, any_option, map_option, is_some, is_none, shown_list}
+use Rattle.model.specs.Kinds.{Kind, root, element, attribute, text, comment, namespace, instruction, Which, attributes, namespaces, is_element, is_root, owns, which_of, text_of, attribute_name, prefix_of, replaceable}
+use Rattle.model.specs.Doc.{Doc, any_option, map_option, is_some, is_none, shown_list}
 use Rattle.model.specs.Edits.{next_handle}
-use Rattle.model.specs.Arguments.{first, refuse_if, not_utf8, namespace_check, text_check, name_check, is_xmlns}
-use Rattle.model.specs.Checks.{check_set_text, check_set_attribute, declaration_check, check_declare_namespace, a_text, an_element, text_under, is_empty}
+use Rattle.model.specs.Arguments.{first, not_utf8}
+use Rattle.model.specs.Checks.{check_set_text, check_set_attribute, declaration_check, check_declare_namespace, a_text, an_element, text_under}
 use Rattle.model.specs.Calls.{Answered, made, done, step, answers, guarded, full_unless, node_fits, text_fits, two_fit, name_fits_in, replacement_fits, replaceable_at, with_replaced, appended, with_two, stored_two, find_attribute, find_namespace, set_attribute_found, declare_namespace_found, set-text, set-attribute, declare-namespace}
 use Rattle.model.specs.Calls as calls
 use Rattle.model.specs.Tree.{Tree, means, update}

@@ -1,10 +1,7 @@
 -- Demand 3 over the document: the plain tree explains every list of calls.
 -- Assumes nothing.
-use mathlib.Core.Path.{◌≡◌}
-use mathlib.Core.Bool.{true}
-use mathlib.Core.List.{List}
 use Prim.Native.Nat.{ℕ}
-use Rattle.model.specs.Doc.{Doc, Limits, limits_ok, fresh, root_handle}
+use Rattle.model.specs.Doc.{Doc, fresh}
 use Rattle.model.specs.Calls.{Call, append-element, append-text, append-comment, append-pi, set-text, set-attribute, remove-attribute, declare-namespace, remove, detach, reparent, insert-at, document-order, compact, root-of, kind-of, parent-of, children-of, root-element, is-element, name_of, attribute-nodes, namespace-nodes, nodes, order-key}
 use Rattle.model.specs.Calls as calls
 use Rattle.model.specs.Tree.{Tree, seed}

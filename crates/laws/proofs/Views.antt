@@ -1,34 +1,25 @@
 -- What a handle shows is what its birth shows: the views that the checks see, the lists that are shown, and what is found in them.
 -- Assumes nothing.
-use mathlib.Core.Path.{◌≡◌, refl, sym, ap, ap₂, ◌∙◌, subst}
-use mathlib.Core.Bool.{Bool, true, false, not, cond, ◌&&◌, false≢true, true≢false}
+use mathlib.Core.Path.{◌≡◌, refl, sym, ap, ◌∙◌}
+use mathlib.Core.Bool.{Bool, true, false, not, cond}
 use mathlib.Core.Option.{Option, none, some}
 use mathlib.Core.List.{List, [], ◌∷◌, map, Memᴰ}
-use Prim.Native.Nat.{ℕ, ◌+◌, ◌≤◌}
-use native.Mathlib.Omega.{arith}
-use borrow.Author.Tests.{eq-eqb, ne_eqb, le-leb}
-use lib.Dec.{eqb, leb}
-use lib.ListN.{length, length-map}
+use Prim.Native.Nat.{ℕ}
 use Rattle.words.specs.Lists.{find}
-use Rattle.words.proofs.Tests.{and_left, and_right, and_both}
 use Rattle.words.proofs.Parts.{part_none}
-use Rattle.blocks.specs.Arena.{Block, block, cap_of, list_of}
-use Rattle.blocks.specs.Rule.{BlocksApart, Inside}
-use Rattle.records.specs.Handles.{handle_index}
 use Rattle.words.specs.Pieces.{same_bytes}
 use Rattle.names.specs.Table.{Name, same_name}
-use Rattle.model.specs.Kinds.{Kind, Which, children, attributes, namespaces, is_element, is_root, attribute_name, prefix_of, map_kind}
-use Rattle.model.specs.Doc.{Doc, resolves, kind_at, kind_in, node_at, pair_at, bytes_at, view_at, range_in, in_arena, has_list, shown_block, shown_list, list_at, shows_element, root_element, root_handle, or_else, any_option, map_option, live_slot}
+use Rattle.model.specs.Kinds.{Kind, Which, children, attributes, namespaces, is_element, is_root, attribute_name, prefix_of}
+use Rattle.model.specs.Doc.{Doc, resolves, kind_at, pair_at, bytes_at, view_at, shown_list, shows_element, root_element, any_option, map_option}
 use Rattle.model.specs.Calls.{has_name, has_prefix, find_attribute, find_namespace, other_than, root_taken, under_root}
-use Rattle.model.specs.Rules.{block_in, has_range}
 use Rattle.model.specs.Tree.{Tree, means, view}
 use Rattle.model.specs.Tree as tree
 use Rattle.laws.proofs.Wf.{WF}
 use Rattle.laws.proofs.Sim.{Sim}
 use Rattle.laws.proofs.Membership.{find-some}
-use Rattle.laws.proofs.Basics.{resolves-live, means-live, by-handle, same-births, live-node}
+use Rattle.laws.proofs.Basics.{resolves-live, means-live, by-handle, same-births}
 use Rattle.laws.proofs.Explained.{shown-list}
-use Rattle.laws.proofs.Shown.{is_element-map, is_root-map, attribute_name-map, prefix_of-map, owns-map}
+use Rattle.laws.proofs.Shown.{is_element-map, is_root-map, attribute_name-map, prefix_of-map}
 
 -- a search in the handles of births finds the handle of what the search in the births finds
 pub find-births : (hs : ℕ → ℕ) (p q : ℕ → Bool) (l : List ℕ) → ((c : ℕ) → Memᴰ c l → p (hs c) ≡ q c) → find p (map hs l) ≡ map_option hs (find q l)

@@ -2,11 +2,11 @@
 -- Assumes nothing.
 use mathlib.Core.Path.{◌≡◌}
 use mathlib.Core.Logic.{◌≢◌}
-use mathlib.Core.Bool.{Bool, true, false}
+use mathlib.Core.Bool.{true}
 use mathlib.Core.Option.{Option, none, some}
 use mathlib.Core.List.{List, [], ◌∷◌, Memᴰ}
 use Prim.Native.Nat.{ℕ}
-use Rattle.model.specs.Kinds.{Kind, root, Which, children, which_of, is_element, is_root, owns}
+use Rattle.model.specs.Kinds.{root, Which, children, which_of, is_element, is_root, owns}
 use Rattle.model.specs.Tree.{Tree}
 
 -- no entry stands twice

@@ -6,8 +6,7 @@ use mathlib.Core.List.{List, [], ◌∷◌, map, Memᴰ}
 use Rattle.words.specs.Lists.{any}
 use Rattle.records.specs.Handles.{handle_index}
 use Rattle.names.specs.Table.{Name}
-use Rattle.blocks.specs.Arena.{Block}
-use Rattle.model.specs.Kinds.{Kind, Which, attributes, map_kind}
+use Rattle.model.specs.Kinds.{Which, attributes, map_kind}
 use Rattle.model.specs.Doc.{Doc, Limits, limits_ok, fresh, root_handle, no_key, or_else, map_option, resolves, live_slot, node_at, parent_at, pair_at, shown_list}
 use Rattle.model.specs.Calls.{Answer, refused, done, made, truth, node, listed, every_node, kind_is, name_is, key, keys, Answered, order_key}
 use Rattle.model.specs.Calls.{Call, append-element, append-text, append-comment, append-pi, set-text, set-attribute, remove-attribute, declare-namespace, remove, detach, reparent, insert-at, document-order, compact, root-of, kind-of, parent-of, children-of, root-element, is-element, name_of, attribute-nodes, namespace-nodes, nodes, order-key}

@@ -8,7 +8,7 @@ use native.Mathlib.Omega.{arith}
 use native.Mathlib.Decide.{dec_lt}
 use lib.ListN.{length}
 use Rattle.words.proofs.Tests.{and_right}
-use Rattle.blocks.specs.Arena.{Arena, block, arena_words, cap_of, has_room, inserted, removed}
+use Rattle.blocks.specs.Arena.{Arena, arena_words, cap_of, has_room, inserted, removed}
 use Rattle.blocks.specs.Answer.{insert_answer, insert_words}
 use Rattle.blocks.specs.Held.{Held}
 use Rattle.blocks.specs.Rule.{Shaped, Inside}

@@ -7,7 +7,7 @@ use mathlib.Core.List.{List}
 use Prim.Native.Nat.{ℕ, ◌+◌, ◌≤◌, ◌<◌}
 use native.Mathlib.Nat.{min-eq_left}
 use lib.ListN.{length, set}
-use Rattle.blocks.specs.Arena.{block, Edit, arena_of, arena_words}
+use Rattle.blocks.specs.Arena.{Edit, arena_of, arena_words}
 use Rattle.records.specs.Fields.{RangeFits}
 use Rattle.records.specs.declared.Node.{Node}
 use Rattle.records.specs.declared.Loaded.TheVariants.{Found}

@@ -8,7 +8,7 @@ use Prim.Native.Nat.{ℕ, ◌+◌, ◌≤◌, ◌<◌}
 use native.Mathlib.Omega.{arith}
 use native.Mathlib.Nat.{min-eq_left}
 use lib.ListN.{length}
-use Rattle.blocks.specs.Arena.{Arena, Edit, block, arena_of, arena_words, has_room, inserted, removed}
+use Rattle.blocks.specs.Arena.{Arena, Edit, arena_of, arena_words, has_room, inserted, removed}
 use Rattle.blocks.specs.Held.{Held}
 use Rattle.blocks.proofs.Answers.{answer-room, words-room}
 use Rattle.blocks.proofs.Decoded.{decoded-inserted, decoded-removed, after-length, after-removal-length}

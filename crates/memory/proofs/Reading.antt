@@ -4,7 +4,7 @@ use mathlib.Core.Path.{◌≡◌, sym, ap, ◌∙◌}
 use mathlib.Core.List.{List}
 use Prim.Native.Nat.{ℕ, ◌+◌, ◌-◌, ◌*◌, ◌≤◌, ◌<◌, min}
 use native.Mathlib.Omega.{arith}
-use lib.ListN.{length, get_or, take, drop}
+use lib.ListN.{get_or, take, drop}
 use lib.Seq.{get_or-take}
 use borrow.Author.Tests.{lt-ltb, le-ltb}
 use Rattle.words.specs.Parts.{part}
@@ -16,7 +16,7 @@ use Rattle.records.specs.declared.Loaded.{Loaded}
 use Rattle.records.specs.declared.Loaded.TheVariants.{NoNode}
 use Rattle.records.specs.declared.Node.{Node}
 use Rattle.records.specs.declared.Range.{Range}
-use Rattle.model.specs.Kinds.{Which, children, attributes, namespaces}
+use Rattle.model.specs.Kinds.{Which, attributes, namespaces}
 use Rattle.layout.specs.declared.Document.{Document}
 use Rattle.layout.specs.declared.Arena.{Arena}
 use Rattle.layout.specs.declared.Arena.TheVariants.{Children, Attributes, Namespaces}

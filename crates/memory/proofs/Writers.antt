@@ -6,7 +6,7 @@ use mathlib.Core.List.{List, ◌++◌}
 use Prim.Native.Nat.{ℕ, ◌-◌, ◌*◌, ◌<◌}
 use native.Mathlib.Omega.{arith}
 use lib.ListN.{length, take, drop}
-use Rattle.words.specs.Parts.{part, put}
+use Rattle.words.specs.Parts.{put}
 use Rattle.words.proofs.Parts.{put_back}
 use Rattle.records.specs.Records.{span_of, record_of}
 use Rattle.slots.specs.Regions.{put_record}

@@ -1,6 +1,6 @@
 -- The starred examples hold, by computation.
 -- Assumes nothing.
-use mathlib.Core.Path.{◌≡◌, refl}
+use mathlib.Core.Path.{refl}
 use Rattle.words.specs.Parts.{part, put}
 use Rattle.words.specs.Lists.{insert_at}
 use Rattle.blocks.specs.Arena.{takes, has_room, inserted, removed}

@@ -1,5 +1,5 @@
 -- What byte arguments may be, as 01's numbers, 0 where they pass: the checks of the character layer, with the built-in classes of code points.
-use Rattle.std.specs.Prelude.{Bool, true, false, not, cond, List, [], ◌∷◌, ℕ, zero, suc}
+use Rattle.std.specs.Prelude.{Bool, not, cond, List, ℕ, zero, suc}
 use Rattle.words.specs.Lists.{all}
 use Rattle.chars.specs.Classes.{class_of, is_nc_name}
 use Rattle.chars.specs.Checks.{number_of, on_text, on_texts, of_text, check_prefix, check_text, check_comment, check_pi, check_namespace, check_namespace_binding, is_white_space}

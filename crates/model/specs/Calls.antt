@@ -1,6 +1,6 @@
 -- Every call as a function on the document: its answer by 01's numbers and values, and the document after. Tests 4 and 5 come before
 -- these (`memory`); the rest, in the order 1, the Rust's own checks, 14, is here.
-use Rattle.std.specs.Prelude.{Bool, true, false, not, ◌&&◌, ◌||◌, cond, List, [], ◌∷◌, ◌++◌, ℕ, zero, suc, ◌+◌, length, get_or, take, eqb, leb, ltb}
+use Rattle.std.specs.Prelude.{Bool, true, false, not, ◌&&◌, cond, List, [], ◌∷◌, ℕ, zero, suc, ◌+◌, length, get_or, take, eqb, ltb}
 use Rattle.std.proofs.Math.Option.{Option, none, some}
 use Rattle.words.specs.Lists.{find}
 use Rattle.blocks.specs.Arena.{Block, block, has_room}
@@ -8,8 +8,8 @@ use Rattle.records.specs.Handles.{handle_index}
 use Rattle.texts.specs.Pool.{Pool, stored_slot, stored, replaced_slot, replaced, slots_for, texts_fit}
 use Rattle.words.specs.Pieces.{same_bytes}
 use Rattle.names.specs.Table.{Name, name, same_name, number_of, interned, name_at, name_fits}
-use Rattle.model.specs.Kinds.{Kind, root, element, attribute, text, comment, namespace, instruction, Which, children, attributes, namespaces, is_element, is_root, text_of, attribute_name, prefix_of, replaceable, with_text, map_kind}
-use Rattle.model.specs.Doc.{Doc, Limits, root_handle, no_key, any_option, is_none, is_some, or_else, resolves, kind_at, parent_at, range_in, list_at, shown_block, shown_list, shown_parent, shows_element, pair_at, bytes_at, view_at, live_nodes, root_element, on_path}
+use Rattle.model.specs.Kinds.{Kind, element, attribute, text, comment, namespace, instruction, Which, children, attributes, namespaces, is_element, is_root, attribute_name, prefix_of, replaceable, with_text, map_kind}
+use Rattle.model.specs.Doc.{Doc, root_handle, no_key, any_option, is_some, or_else, resolves, kind_at, parent_at, range_in, list_at, shown_block, shown_list, shown_parent, shows_element, pair_at, bytes_at, view_at, live_nodes, root_element, on_path}
 use Rattle.model.specs.Edits.{next_handle, born, attach, unhook, set_kind, subtree, free_all, renew_order, rebuild_arenas}
 use Rattle.model.specs.Arguments.{refuse_if, first}
 use Rattle.model.specs.Checks.{check_append_element, check_append_text, check_append_comment, check_append_pi, check_set_text, check_set_attribute, check_remove_attribute, check_declare_namespace, check_remove, check_detach, check_move}

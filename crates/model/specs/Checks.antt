@@ -1,10 +1,10 @@
 -- The checks of each call but Full, in the Rust's order after 1, as 01's numbers, 0 where the call is accepted. The document and the plain
 -- tree share them: a node is seen as its kind with its name pair and its bytes, or none where the handle is stale.
-use Rattle.std.specs.Prelude.{Bool, true, false, not, ◌&&◌, ◌||◌, cond, List, [], ◌∷◌, ℕ}
+use Rattle.std.specs.Prelude.{Bool, true, false, not, ◌&&◌, cond, List, [], ◌∷◌, ℕ}
 use Rattle.std.proofs.Math.Option.{Option, none, some}
 use Rattle.names.specs.Table.{Name}
-use Rattle.model.specs.Kinds.{Kind, root, element, attribute, text, comment, namespace, instruction, is_container, is_element, is_root, child_kind, text_of}
-use Rattle.model.specs.Doc.{is_none, is_some, any_option}
+use Rattle.model.specs.Kinds.{Kind, is_container, is_element, is_root, child_kind, text_of}
+use Rattle.model.specs.Doc.{is_none, any_option}
 use Rattle.model.specs.Arguments.{refuse_if, first, is_utf8, not_utf8, name_check, namespace_check, binding_check, prefix_check, text_check, comment_check, instruction_check, space_only, is_xmlns}
 
 abbrev pub View : Type 0

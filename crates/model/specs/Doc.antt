@@ -1,5 +1,5 @@
 -- The document as lists, shaped as the source: what the words of lent memory mean. Each call is a function on it (`Calls`).
-use Rattle.std.specs.Prelude.{Bool, true, false, ◌&&◌, ◌||◌, cond, List, [], ◌∷◌, ◌++◌, ℕ, zero, suc, ◌+◌, ◌%◌, length, get_or, replicate, eqb, leb, ltb}
+use Rattle.std.specs.Prelude.{Bool, true, false, ◌&&◌, ◌||◌, cond, List, [], ◌∷◌, ℕ, zero, suc, ◌+◌, ◌%◌, length, get_or, replicate, eqb, leb, ltb}
 use Rattle.std.proofs.Math.Option.{Option, none, some}
 use Rattle.words.specs.Lists.{find, joined, tabulate}
 use Rattle.blocks.specs.Arena.{Arena, Block, block, list_of, fresh_arena}

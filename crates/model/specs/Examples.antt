@@ -1,17 +1,17 @@
 -- The starred bench examples of 01, over the calls on the document, as one list; example 11 as 02 (f) has it; a value replaced, also in the plain tree; and the
 -- fault that the port removes.
-use Rattle.std.specs.Prelude.{◌≡◌, Bool, true, false, List, [], ◌∷◌, map, length, get_or}
-use Rattle.std.proofs.Math.Option.{Option, none, some}
+use Rattle.std.specs.Prelude.{◌≡◌, List, [], ◌∷◌, map}
+use Rattle.std.proofs.Math.Option.{some}
 use Prim.Native.Nat.{ℕ, ◌+◌, ◌*◌}
-use Rattle.blocks.specs.Arena.{Block, block, cap_of}
+use Rattle.blocks.specs.Arena.{block, cap_of}
 use Rattle.names.specs.Table.{name}
-use Rattle.model.specs.Kinds.{Kind, attribute, namespace, Which, children, attributes, namespaces}
-use Rattle.model.specs.Doc.{Doc, Limits, fresh, handle_word, root_handle, range_in, resolves, view_at, list_in}
+use Rattle.model.specs.Kinds.{attribute, namespace, children}
+use Rattle.model.specs.Doc.{Limits, fresh, handle_word, root_handle, range_in, view_at, list_in}
 use Rattle.model.specs.Edits.{subtree, up}
 use Rattle.model.specs.Arguments.{name_check}
 use Rattle.model.specs.Tree.{Tree, seed}
 use Rattle.model.specs.Tree as plain
-use Rattle.model.specs.Calls.{Call, append-element, append-text, append-comment, append-pi, set-text, set-attribute, remove-attribute, declare-namespace, remove, detach, reparent, insert-at, document-order, compact, children-of, attribute-nodes, order-key, Answer, Answered, refused, done, made, listed, keys, key, Run, run}
+use Rattle.model.specs.Calls.{Call, append-element, append-text, append-comment, set-text, set-attribute, declare-namespace, remove, detach, reparent, insert-at, document-order, compact, children-of, attribute-nodes, order-key, refused, done, made, listed, keys, key, Run, run}
 
 abbrev pub limits : Limits
 limits = record { nodes = 32; entries = λ w. 64; texts = 16; text_bytes = 64; names = 16; name_bytes = 64 }

@@ -1,7 +1,7 @@
 -- The structure rules of 01, one record a rule. A document that breaks none of them is what every editing call asks; any other is Damaged.
 use Rattle.std.specs.Prelude.{◌≡◌, Bool, true, false, cond, ℕ, ◌+◌, ◌%◌, ◌≤◌, ◌<◌, length, get_or, eqb}
 use Rattle.std.proofs.Math.Option.{Option, none, some}
-use mathlib.Core.List.{List, [], ◌∷◌, ◌++◌, Memᴰ}
+use mathlib.Core.List.{List, [], ◌∷◌, Memᴰ}
 use Rattle.words.specs.Lists.{count_of, joined, tabulate}
 use Rattle.blocks.specs.Arena.{Block, block}
 use Rattle.blocks.specs.Rule.{BlocksApart}
@@ -9,7 +9,7 @@ use Rattle.texts.specs.Pool.{bytes_of}
 use Rattle.names.specs.Table.{entry_bytes}
 use Rattle.records.specs.Handles.{handle_index}
 use Rattle.model.specs.Kinds.{Kind, root, Which, children, attributes, namespaces, same_which, is_element, is_root, owns, which_of, names_of, texts_of}
-use Rattle.model.specs.Doc.{Doc, root_handle, generation_at, live_slot, handle_at, resolves, kind_in, kind_at, parent_in, parent_at, range_in, list_in, list_at, even, is_some}
+use Rattle.model.specs.Doc.{Doc, generation_at, live_slot, handle_at, resolves, kind_in, kind_at, parent_in, parent_at, range_in, list_in, list_at, even, is_some}
 
 -- every kind but attributes and namespaces has a child range, and elements have the two others
 abbrev pub has_range : {N T : Type 0} → Which → Kind N T → Bool

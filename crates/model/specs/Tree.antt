@@ -1,14 +1,14 @@
 -- The plain tree (01, "The plain tree"): births with kinds, parents and lists. No slot, block, capacity, generation or number is in it.
-use Rattle.std.specs.Prelude.{Bool, true, false, not, ◌&&◌, ◌||◌, cond, List, [], ◌∷◌, ◌++◌, ℕ, zero, suc, ◌+◌, eqb, length}
+use Rattle.std.specs.Prelude.{Bool, true, false, not, ◌&&◌, ◌||◌, cond, List, [], ◌∷◌, ◌++◌, ℕ, zero, suc, eqb, length}
 use Rattle.std.proofs.Math.Option.{Option, none, some}
 use Rattle.words.specs.Lists.{insert_at, without, find, joined, keep, tabulate}
 use Rattle.words.specs.Pieces.{same_bytes}
 use Rattle.names.specs.Table.{Name, name, same_name}
 use Rattle.model.specs.Kinds.{Kind, root, element, attribute, text, comment, namespace, instruction, Which, children, attributes, namespaces, which_of, is_element, is_root, attribute_name, prefix_of, with_text}
-use Rattle.model.specs.Doc.{is_some, is_none, or_else, any_option, map_option}
+use Rattle.model.specs.Doc.{is_some, or_else, any_option, map_option}
 use Rattle.model.specs.Edits.{update_which}
 use Rattle.model.specs.Checks.{View, check_append_element, check_append_text, check_append_comment, check_append_pi, check_set_text, check_set_attribute, check_remove_attribute, check_declare_namespace, check_remove, check_detach, check_move}
-use Rattle.model.specs.Calls.{Answer, refused, done, made, truth, node, listed, every_node, kind_is, name_is, key, keys, other_than}
+use Rattle.model.specs.Calls.{Answer, refused, done, made, truth, node, listed, every_node, kind_is, key, other_than}
 use Rattle.model.specs.Calls.{Call, append-element, append-text, append-comment, append-pi, set-text, set-attribute, remove-attribute, declare-namespace, remove, detach, reparent, insert-at, document-order, compact, root-of, kind-of, parent-of, children-of, root-element, is-element, name_of, attribute-nodes, namespace-nodes, nodes, order-key}
 
 -- "Nodes have birth numbers, the Root 0. Each has kind, (namespace, local) pair or byte texts, parent or none, lists of children,

@@ -16,8 +16,6 @@ use Rattle.records.specs.declared.NodeId.{NodeId}
 use Rattle.slots.specs.declared.OrderKey.{OrderKey}
 use Rattle.slots.specs.declared.OrderKey.TheVariants.{None, At}
 use Rattle.records.proofs.Handles.{handle_index-word_of}
-use Rattle.texts.specs.Pool.{Pool}
-use Rattle.names.specs.Table.{Name}
 use Rattle.model.specs.Doc.{no_key, resolves}
 use Rattle.model.specs.Calls.{Answered, key, key_of, refused, step, order-key}
 use Rattle.layout.specs.declared.Document.{Document}

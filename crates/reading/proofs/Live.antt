@@ -3,14 +3,14 @@
 use mathlib.Core.Path.{◌≡◌, refl, sym, ap, ◌∙◌}
 use mathlib.Core.Bool.{Bool, true, false, ◌&&◌, cond, true≢false}
 use mathlib.Core.List.{List, [], ◌∷◌, ◌++◌, append-nil}
-use Prim.Native.Nat.{ℕ, zero, suc, ◌+◌, ◌*◌, ◌%◌, ◌≤◌, ◌<◌}
+use Prim.Native.Nat.{ℕ, zero, suc, ◌+◌, ◌*◌, ◌≤◌, ◌<◌}
 use native.Mathlib.Nat.{add-zero}
 use native.Mathlib.Numerals.{add-one}
 use native.Mathlib.Decide.{dec_lt}
 use native.Mathlib.Omega.{arith}
 use lib.ListN.{length, take, set, length-append}
-use lib.Dec.{ltb, leb}
-use borrow.Author.Tests.{ltb-true, leb-true, eq-eqb, ne_eqb}
+use lib.Dec.{leb}
+use borrow.Author.Tests.{leb-true}
 use Rattle.words.specs.Parts.{part, put}
 use Rattle.words.specs.Lists.{joined, tabulate}
 use Rattle.words.proofs.Parts.{put-nil, set-put, part-put-same}
@@ -18,7 +18,7 @@ use Rattle.words.proofs.Tests.{and_left, and_right}
 use Rattle.words.proofs.Joined.{joined-append}
 use Rattle.slots.specs.Regions.{generation_at}
 use Rattle.model.specs.Doc.{Doc, live_slot, handle_at, live_nodes}
-use Rattle.model.specs.Calls.{every_node, nodes}
+use Rattle.model.specs.Calls.{every_node}
 use Rattle.layout.specs.declared.Document.{Document}
 use Rattle.layout.specs.Layout.{memory_ok}
 use Rattle.memory.specs.Decode.{slots_part, slots_made, pool_in, names_in, lengths_add, decode}

@@ -1,17 +1,16 @@
 -- The removal of an attribute that was found, and of none.
 -- Assumes nothing.
-use mathlib.Core.Path.{◌≡◌, refl, sym, ap, ◌∙◌}
+use mathlib.Core.Path.{◌≡◌, refl, ap, ◌∙◌}
 use mathlib.Core.Bool.{Bool, true, false}
 use mathlib.Core.Option.{Option, none, some}
 use mathlib.Core.List.{List, [], ◌∷◌}
 use Prim.Native.Nat.{ℕ}
-use native.Mathlib.Omega.{arith}
 use Rattle.names.specs.Table.{name}
 use Rattle.model.specs.Kinds.{Kind, root, element, attribute, text, comment, namespace, instruction, Which, children, attributes, namespaces, which_of, is_root}
 use Rattle.model.specs.Doc.{Doc, resolves, kind_at, view_at}
 use Rattle.model.specs.Arguments.{not_utf8}
 use Rattle.model.specs.Checks.{an_element, check_remove_attribute}
-use Rattle.model.specs.Calls.{Out, answers, truth, remove-attribute, removed, remove_attribute_found, find_attribute, step}
+use Rattle.model.specs.Calls.{answers, truth, remove-attribute, removed, remove_attribute_found, find_attribute, step}
 use Rattle.layout.specs.declared.Document.{Document}
 use Rattle.memory.specs.Decode.{decode}
 use Rattle.memory.specs.Step.{Step}

@@ -2,7 +2,7 @@
 -- Assumes nothing.
 use mathlib.Core.Path.{◌≡◌, refl, sym, ap, ◌∙◌, subst}
 use mathlib.Core.Logic.{◌≢◌, ◌⊎◌, inl, inr}
-use mathlib.Core.Bool.{Bool, true, false, ◌&&◌, cond, false≢true, true≢false}
+use mathlib.Core.Bool.{Bool, true, false, ◌&&◌, cond, true≢false}
 use mathlib.Core.List.{List, [], ◌∷◌}
 use Prim.Native.Nat.{ℕ, ◌<◌}
 use native.Mathlib.Omega.{arith}
@@ -11,7 +11,7 @@ use lib.Dec.{eqb, leb}
 use lib.ListN.{length}
 use Rattle.words.proofs.Tests.{and_left}
 use Rattle.words.specs.Lists.{all}
-use Rattle.model.specs.Doc.{Doc, Limits, limits_ok, fresh, root_handle, resolves}
+use Rattle.model.specs.Doc.{Doc, limits_ok, root_handle, resolves}
 use Rattle.model.specs.Resolving.{handles_of}
 use Rattle.model.specs.Calls.{Call, Answered, refused, is_refusal, answers, step, append-element, append-text, append-comment, append-pi, set-text, set-attribute, remove-attribute, declare-namespace, remove, detach, reparent, insert-at, document-order, compact, root-of, kind-of, parent-of, children-of, root-element, is-element, name_of, attribute-nodes, namespace-nodes, nodes, order-key}
 use Rattle.model.specs.Calls as calls

@@ -16,7 +16,7 @@ use Rattle.model.specs.Doc.{Doc, no_key, resolves, kind_at, range_in, bytes_at, 
 use Rattle.model.specs.Edits.{unhook}
 use Rattle.model.specs.Arguments.{first}
 use Rattle.model.specs.Checks.{check_append_element, check_append_text, check_append_comment, check_append_pi, check_set_text, check_remove, check_detach, check_move}
-use Rattle.model.specs.Calls.{Call, append-element, append-text, append-comment, append-pi, set-text, set-attribute, remove-attribute, declare-namespace, remove, detach, reparent, insert-at, document-order, compact, root-of, kind-of, parent-of, children-of, root-element, is-element, name_of, attribute-nodes, namespace-nodes, nodes, order-key, Answered, refused, done, key, kind_is, is_refusal, Out, answers, guarded, full_unless, room_fits, node_fits, text_fits, name_fits_in, two_fit, replacement_fits, replaceable_at, root_taken, under_root, find_attribute, find_namespace, set_attribute_found, declare_namespace_found, remove_attribute_found, key_of, order_key, shown_kind, step}
+use Rattle.model.specs.Calls.{Call, append-element, append-text, append-comment, append-pi, set-text, set-attribute, remove-attribute, declare-namespace, remove, detach, reparent, insert-at, document-order, compact, root-of, kind-of, parent-of, children-of, root-element, is-element, name_of, attribute-nodes, namespace-nodes, nodes, order-key, Answered, refused, key, kind_is, is_refusal, Out, answers, guarded, full_unless, room_fits, node_fits, text_fits, name_fits_in, two_fit, replacement_fits, replaceable_at, root_taken, under_root, find_attribute, find_namespace, set_attribute_found, declare_namespace_found, remove_attribute_found, key_of, order_key, shown_kind, step}
 use Rattle.verdicts.specs.Verdicts.{refusal_number}
 
 -- ---- guards

@@ -1,9 +1,9 @@
 -- The order words cleared, and the renewed order as a whole.
 -- Assumes nothing.
-use mathlib.Core.Path.{◌≡◌, refl, sym, ap, ◌∙◌, subst}
-use mathlib.Core.Bool.{Bool, true}
-use mathlib.Core.List.{List, [], ◌∷◌, ◌++◌}
-use Prim.Native.Nat.{ℕ, ◌+◌, ◌-◌, ◌*◌, ◌≤◌, ◌<◌}
+use mathlib.Core.Path.{◌≡◌, sym, ap, ◌∙◌, subst}
+use mathlib.Core.Bool.{true}
+use mathlib.Core.List.{List, ◌++◌}
+use Prim.Native.Nat.{ℕ, ◌+◌, ◌-◌, ◌*◌, ◌≤◌}
 use native.Mathlib.Omega.{arith}
 use lib.ListN.{length, take, drop, replicate, length-append, length-replicate, length-drop, take-append-drop}
 use lib.Seq.{length-take-le}
@@ -12,7 +12,7 @@ use borrow.Author.Tests.{leb-true}
 use Rattle.words.specs.Parts.{part, put}
 use Rattle.words.proofs.Parts.{length_part, part-add, drop-part, length-put, part-put-same, part-put-after, drop-put-after, put-put, put_same, put_back, put-left}
 use Rattle.words.proofs.Tests.{and_left, and_right}
-use Rattle.slots.specs.Regions.{order_start, clear_order}
+use Rattle.slots.specs.Regions.{clear_order}
 use Rattle.model.specs.Kinds.{children}
 use Rattle.model.specs.Doc.{Doc, change_order, no_key}
 use Rattle.model.specs.Edits.{keyed, ordered, order_of, renew_order}

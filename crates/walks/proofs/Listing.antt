@@ -15,7 +15,6 @@ use Rattle.records.specs.Handles.{handle_index}
 use Rattle.records.specs.declared.Range.{Range}
 use Rattle.model.specs.Kinds.{Which}
 use Rattle.model.specs.Doc.{Doc, live_slot, range_in, list_in}
-use Rattle.model.specs.Edits.{keyed}
 use Rattle.layout.specs.declared.Document.{Document}
 use Rattle.layout.specs.Layout.{limits_of, arena_at, memory_ok}
 use Rattle.memory.specs.Decode.{block_of, arena_in, decode}

@@ -2,10 +2,10 @@
 -- Assumes nothing.
 use mathlib.Core.Path.{◌≡◌, refl, sym, ap, ◌∙◌}
 use mathlib.Core.Bool.{Bool, true}
-use mathlib.Core.List.{List, [], ◌∷◌, ◌++◌, reverse, Memᴰ}
-use Prim.Native.Nat.{ℕ, zero, suc, ◌+◌, ◌-◌, ◌*◌, ◌≤◌, ◌<◌}
+use mathlib.Core.List.{List, [], ◌∷◌, ◌++◌, reverse}
+use Prim.Native.Nat.{ℕ, zero, suc, ◌+◌, ◌*◌, ◌≤◌, ◌<◌}
 use native.Mathlib.Omega.{arith}
-use lib.ListN.{length, get_or, set, take, drop, replicate, length-set, length-append, length-replicate, length-drop}
+use lib.ListN.{length, get_or, set, length-set}
 use borrow.Rule.Slice.PartMut.{set_mid_at}
 use Rattle.words.specs.Parts.{part, put}
 use Rattle.words.specs.Lists.{tabulate}
@@ -21,7 +21,7 @@ use Rattle.model.specs.Doc.{Doc, change_slots, change_nodes, change_arenas, chan
 use Rattle.model.specs.Edits.{keyed}
 use Rattle.layout.specs.declared.Document.{Document}
 use Rattle.layout.specs.Layout.{limits_of, entries_of, arena_at, texts_at, texts_words, names_at, names_words, memory_ok}
-use Rattle.memory.specs.Decode.{kind_loaded, parent_loaded, range_loaded, loaded_at, slots_part, slots_made, slots_free, arena_part, decode_with, decode, lengths_add}
+use Rattle.memory.specs.Decode.{kind_loaded, parent_loaded, range_loaded, loaded_at, slots_part, slots_made, slots_free, decode, lengths_add}
 use Rattle.memory.specs.Writing.{put_slots}
 use Rattle.layout.specs.Record.{record_with}
 use Rattle.layout.proofs.Sizes.{sizes, arena-behind-slots, arena-inside, names-next}

@@ -1,17 +1,14 @@
 -- Lists pushed one behind the other, and the walk of `free_subtree`: what it pushes after a node.
 -- Assumes nothing.
-use mathlib.Core.Path.{◌≡◌, refl, sym, ap, ◌∙◌, subst}
-use mathlib.Core.Logic.{◌⊎◌, inl, inr}
-use mathlib.Core.Bool.{true}
-use mathlib.Core.Option.{none, some, none-ne-some}
-use mathlib.Core.List.{List, [], ◌∷◌, ◌++◌, reverse, reverse-append, append_assoc, Memᴰ}
-use Prim.Native.Nat.{ℕ, suc, ◌+◌, ◌-◌, ◌≤◌, ◌<◌}
+use mathlib.Core.Path.{◌≡◌, sym, ap, ◌∙◌}
+use mathlib.Core.List.{List, ◌++◌, reverse, reverse-append, append_assoc}
+use Prim.Native.Nat.{ℕ, ◌+◌, ◌≤◌, ◌<◌}
 use native.Mathlib.Omega.{arith}
 use native.Mathlib.Numerals.{add-one}
 use lib.ListN.{length, get_or, set, take, drop, length-append}
 use lib.Seq.{take-suc, take_at, take-length, length-take-le}
-use Rattle.words.specs.Parts.{part, put}
-use Rattle.words.proofs.Parts.{length-put, put-nil, put-put, put_front, part-put-same, set-put-after}
+use Rattle.words.specs.Parts.{put}
+use Rattle.words.proofs.Parts.{length-put, put-put, put_front, part-put-same, set-put-after}
 use Rattle.walks.proofs.Renewing.{stack_of}
 
 pub entries_next : (s e t : List ℕ) (p k : ℕ) → k < length e → p + length e ≤ length s → t ≡ put p (take k e) s → set t (p + k) (get_or e k 0) ≡ put p (take (k + 1) e) s

@@ -1,7 +1,7 @@
 -- A turn of the renewal: the top of the stack is numbered, and its children go on the stack.
 -- Assumes nothing.
 use mathlib.Core.Path.{◌≡◌, refl, sym, ap, ◌∙◌, subst}
-use mathlib.Core.Logic.{◌⊎◌, inl, inr}
+use mathlib.Core.Logic.{inr}
 use mathlib.Core.Bool.{true}
 use mathlib.Core.List.Memᴰ
 use mathlib.Core.List.{List, [], ◌∷◌, ◌++◌, reverse, reverse-append, reverse-reverse, append_assoc, append-nil}
@@ -23,7 +23,7 @@ use Rattle.layout.proofs.Sizes.{sizes}
 use Rattle.memory.proofs.Columns.{length-gens}
 use Rattle.walks.specs.Order.{put_keys, keyed_at, Listed, Walkable}
 use Rattle.walks.proofs.Orders.{keys_none, keys-more}
-use Rattle.walks.proofs.Visits.{Nest, Visiting, visiting-first, visiting-next, visiting-fits}
+use Rattle.walks.proofs.Visits.{Visiting, visiting-first, visiting-next, visiting-fits}
 use Rattle.walks.proofs.Walkable.{same_index, nest, index-made, walkable-listed}
 use Rattle.walks.proofs.Numbering.{Numbered, numbered-listed, list_same, listed-short}
 

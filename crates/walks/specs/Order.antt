@@ -1,7 +1,7 @@
 -- The renewed order: keys written into the order words.
-use Rattle.std.specs.Prelude.{◌≡◌, Bool, true, ℕ, ◌+◌, ◌≤◌, ◌<◌, length, drop, replicate}
+use Rattle.std.specs.Prelude.{◌≡◌, true, ℕ, ◌+◌, ◌≤◌, ◌<◌, length, drop, replicate}
 use Rattle.std.proofs.Math.Option.{none}
-use mathlib.Core.List.{List, [], ◌∷◌, ◌++◌, Memᴰ}
+use mathlib.Core.List.{List, ◌∷◌, ◌++◌, Memᴰ}
 use Rattle.words.specs.Parts.{put}
 use Rattle.records.specs.Handles.{handle_index}
 use Rattle.slots.specs.Regions.{order_start}

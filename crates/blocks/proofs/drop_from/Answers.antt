@@ -40,6 +40,9 @@ bounds-arena-limit c =
 
 pub returns : goal.returns
 returns c =
-    record { by_index = (removes-there _ _ _ _ c.requires _ _ _ _ c.position-at.ensures c.if-len-at.false c.shrunk-cap.ensures
-    (stored-record _ _ _ _ c.remove_in_place.ensures)).0; by_index_2 = (removes-there _ _ _ _ c.requires _ _ _ _ c.position-at.ensures c.if-len-at.false c.shrunk-cap.ensures
-    (stored-record _ _ _ _ c.remove_in_place.ensures)).1 }
+    record {
+      by_index = (removes-there _ _ _ _ c.requires _ _ _ _ c.position-at.ensures c.if-len-at.false c.shrunk-cap.ensures
+          (stored-record _ _ _ _ c.remove_in_place.ensures)).0;
+      by_index_2 = (removes-there _ _ _ _ c.requires _ _ _ _ c.position-at.ensures c.if-len-at.false c.shrunk-cap.ensures
+          (stored-record _ _ _ _ c.remove_in_place.ensures)).1;
+    }

@@ -29,12 +29,15 @@ returns-then-more-eq0 c =
 
 pub move_block_with-requires : goal.move_block_with-requires
 move_block_with-requires c =
-    let pre = c.requires in record { arena_len = pre.twice; at_le_len = (
+    let pre = c.requires in record {
+      arena_len = pre.twice;
+      at_le_len = (
         omega (arith, c.least-index.ensures),
         held-len _ _ _ _ _ pre,
         moved_more _ _ _ _ _ pre _ (c.entries_for-more.ensures _) c.if-more-eq0.false,
         omega (arith, c.if-limit-used.false, pre.fits),
-      ) }
+      );
+    }
 
 pub overflow_add-result-2 : goal.overflow_add-result-2
 overflow_add-result-2 c =

@@ -15,7 +15,6 @@ module _ (r a b : Bool) (e : r ≡ a) where
       let q : a ≡ false = sym e ∙ t in
       rw q
 
-
 pub returns-then-piece_there : goal.returns-then-piece_there
 returns-then-piece_there c = both _ _ _ c.piece_there.ensures _ c.if-piece_there.true c.piece_there-then-piece_there.ensures
 

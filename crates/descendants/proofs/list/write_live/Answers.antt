@@ -1,7 +1,6 @@
 -- `descendants::list::write_live` meets its contract. The invariant: what is written, and what the steps from here on list, are the whole walk.
 -- Assumes nothing.
 use mathlib.Core.Path.{refl, ap, ◌∙◌}
-use Prim.Native.Nat.{◌-◌}
 use native.Mathlib.Omega.{arith}
 use lib.ListN.{length}
 use borrow.Author.Rules.{rules}

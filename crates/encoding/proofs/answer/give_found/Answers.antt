@@ -7,11 +7,14 @@ use Rattle.encoding.proofs.answer.give_found.Goals as goal
 
 pub returns-in-Found : goal.returns-in-Found
 returns-in-Found c =
-    record { value = (given_both c.args.document.now (found_record c.args.answer) c.args.found.now (found_words c.args.answer) _ _ _ _
-    (ap found_record c.in-Found.is) (ap found_words c.in-Found.is) c.put_record.ensures
-    (one_word c.args.found.now _ _ c.truth_word.ensures c.requires.1)).0; document_after = (given_both c.args.document.now (found_record c.args.answer) c.args.found.now (found_words c.args.answer) _ _ _ _
-    (ap found_record c.in-Found.is) (ap found_words c.in-Found.is) c.put_record.ensures
-    (one_word c.args.found.now _ _ c.truth_word.ensures c.requires.1)).1 }
+    record {
+      value = (given_both c.args.document.now (found_record c.args.answer) c.args.found.now (found_words c.args.answer) _ _ _ _
+          (ap found_record c.in-Found.is) (ap found_words c.in-Found.is) c.put_record.ensures
+          (one_word c.args.found.now _ _ c.truth_word.ensures c.requires.1)).0;
+      document_after = (given_both c.args.document.now (found_record c.args.answer) c.args.found.now (found_words c.args.answer) _ _ _ _
+          (ap found_record c.in-Found.is) (ap found_words c.in-Found.is) c.put_record.ensures
+          (one_word c.args.found.now _ _ c.truth_word.ensures c.requires.1)).1;
+    }
 
 pub returns-in-Refused : goal.returns-in-Refused
 returns-in-Refused c =

@@ -7,11 +7,14 @@ use Rattle.encoding.proofs.answer.give_made.Goals as goal
 
 pub returns-in-Made : goal.returns-in-Made
 returns-in-Made c =
-    record { value = (given_both c.args.document.now (made_record c.args.answer) c.args.made.now (made_words c.args.answer) _ _ _ _
-    (ap made_record c.in-Made.is) (ap made_words c.in-Made.is) c.put_record.ensures
-    (one_word c.args.made.now _ _ c.word_of.ensures c.requires.1)).0; document_after = (given_both c.args.document.now (made_record c.args.answer) c.args.made.now (made_words c.args.answer) _ _ _ _
-    (ap made_record c.in-Made.is) (ap made_words c.in-Made.is) c.put_record.ensures
-    (one_word c.args.made.now _ _ c.word_of.ensures c.requires.1)).1 }
+    record {
+      value = (given_both c.args.document.now (made_record c.args.answer) c.args.made.now (made_words c.args.answer) _ _ _ _
+          (ap made_record c.in-Made.is) (ap made_words c.in-Made.is) c.put_record.ensures
+          (one_word c.args.made.now _ _ c.word_of.ensures c.requires.1)).0;
+      document_after = (given_both c.args.document.now (made_record c.args.answer) c.args.made.now (made_words c.args.answer) _ _ _ _
+          (ap made_record c.in-Made.is) (ap made_words c.in-Made.is) c.put_record.ensures
+          (one_word c.args.made.now _ _ c.word_of.ensures c.requires.1)).1;
+    }
 
 pub returns-in-Refused : goal.returns-in-Refused
 returns-in-Refused c =

@@ -1,8 +1,6 @@
 -- `entries::node_lists::all_entered` meets its contract.
 -- Assumes nothing.
 use mathlib.Core.Path.{refl}
-use mathlib.Core.Bool.{true}
-use Prim.Native.Nat.{◌-◌}
 use native.Mathlib.Omega.{arith}
 use Rattle.memory.specs.Decode.{slots_made}
 use Rattle.entries.specs.Nodes.{decode_nodes}

@@ -1,7 +1,6 @@
 -- `entries::node_lists::count_block` meets its contract.
 -- Assumes nothing.
 use mathlib.Core.Path.{◌∙◌}
-use Prim.Native.Nat.{◌-◌}
 use native.Mathlib.Omega.{arith}
 use Rattle.entries.specs.Entering.{words_enter}
 use Rattle.entries.proofs.Marks.{passing-none}

@@ -1,7 +1,6 @@
 -- `entries::node_lists::count_lists` meets its contract.
 -- Assumes nothing.
 use mathlib.Core.Path.{◌∙◌}
-use Prim.Native.Nat.{◌-◌}
 use native.Mathlib.Omega.{arith}
 use Rattle.entries.proofs.Marks.{passing-none, passing-next, passing-not, passing-all}
 use Rattle.std.proofs.lemmas.Bool.{not_from_false, not_from_true}

@@ -1,7 +1,6 @@
 -- `entries::node_paths::check_paths` meets its contract.
 -- Assumes nothing.
 use mathlib.Core.Path.{◌∙◌}
-use Prim.Native.Nat.{◌-◌}
 use native.Mathlib.Omega.{arith}
 use Rattle.entries.specs.Nodes.{decode_nodes}
 use Rattle.entries.proofs.Paths.{gens-made, checked-none, checked-next, checked-lost, checked-all}

@@ -1,7 +1,6 @@
 -- `entries::node_paths::follow` meets its contract.
 -- Assumes nothing.
 use mathlib.Core.Path.{sym, ◌∙◌}
-use Prim.Native.Nat.{◌-◌}
 use native.Mathlib.Omega.{arith}
 use Rattle.entries.specs.Nodes.{decode_nodes}
 use Rattle.entries.proofs.Paths.{gens-made, parents-made, follow-start, follow-step, follow-past, follow-known, follow-end}

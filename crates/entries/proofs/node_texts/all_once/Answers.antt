@@ -1,8 +1,6 @@
 -- `entries::node_texts::all_once` meets its contract.
 -- Assumes nothing.
 use mathlib.Core.Path.{refl}
-use mathlib.Core.Bool.{true}
-use Prim.Native.Nat.{◌-◌}
 use native.Mathlib.Omega.{arith}
 use Rattle.entries.specs.Fields.{marked_one}
 use Rattle.entries.proofs.Marks.{tested-all}

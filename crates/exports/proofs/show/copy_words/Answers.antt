@@ -1,7 +1,6 @@
 -- `exports::show::copy_words` meets its contract.
 -- Assumes nothing.
 use mathlib.Core.Path.{refl}
-use Prim.Native.Nat.{◌-◌}
 use lib.ListN.{length-set}
 use native.Mathlib.Omega.{arith}
 use Rattle.exports.proofs.Showing.{copy-first, copy-turn, copy_done}

@@ -1,12 +1,9 @@
 -- `lines::write::put_bytes` meets its contract: the part that was lent comes back as the bytes.
 -- Assumes nothing.
-use mathlib.Core.Path.{◌≡◌, refl, ◌∙◌}
-use mathlib.Core.List.{List, [], ◌++◌, append-nil}
-use Prim.Native.Nat.{ℕ, ◌+◌, ◌-◌}
+use mathlib.Core.Path.{◌≡◌, refl}
+use Prim.Native.Nat.{◌+◌, ◌-◌}
 use native.Mathlib.Omega.{arith}
-use lib.ListN.{length, take, drop, length-take, drop_of_length-le}
-use lib.Seq.{take_all}
-use Rattle.words.specs.Parts.{put}
+use lib.ListN.{length}
 use Rattle.words.proofs.Parts.{put_back}
 use Rattle.lines.proofs.write.put_bytes.Goals as goal
 

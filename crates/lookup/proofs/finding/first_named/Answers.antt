@@ -1,7 +1,6 @@
 -- `lookup::finding::first_named` meets its contract.
 -- Assumes nothing.
 use native.Mathlib.Omega.{arith}
-use Prim.Native.Nat.{◌-◌}
 use Rattle.names.specs.Table.{name}
 use Rattle.model.specs.Kinds.{attributes}
 use Rattle.model.specs.Calls.{has_name}

@@ -1,7 +1,6 @@
 -- `lookup::finding::first_prefixed` meets its contract.
 -- Assumes nothing.
 use native.Mathlib.Omega.{arith}
-use Prim.Native.Nat.{◌-◌}
 use Rattle.model.specs.Kinds.{namespaces}
 use Rattle.model.specs.Calls.{has_prefix}
 use Rattle.memory.specs.Decode.{arena_in, decode}

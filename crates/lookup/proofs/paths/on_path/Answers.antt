@@ -2,7 +2,6 @@
 -- Assumes nothing.
 use Rattle.lookup.proofs.Climbing.{climbed-start, climbed-met, climbed-top, climbed-up, climbed-end, path-answer, parent-none, parent-some}
 use native.Mathlib.Omega.{arith}
-use Prim.Native.Nat.{◌-◌}
 use Rattle.records.specs.Handles.{word_of}
 use Rattle.memory.specs.Decode.{decode}
 use Rattle.lookup.proofs.paths.on_path.Goals as goal

@@ -1,7 +1,6 @@
 -- `lookup::root::first_element` meets its contract.
 -- Assumes nothing.
 use native.Mathlib.Omega.{arith}
-use Prim.Native.Nat.{◌-◌}
 use Rattle.model.specs.Kinds.{children}
 use Rattle.model.specs.Doc.{shows_element}
 use Rattle.memory.specs.Decode.{arena_in, decode}

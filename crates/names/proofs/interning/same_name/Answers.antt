@@ -27,7 +27,6 @@ module _ (words namespace local : List ℕ) (at middle end : ℕ) (r : Bool) (e 
       let a : same_bytes namespace (part at (middle - at) words) ≡ false = sym first ∙ t in
       rw a
 
-
 pub returns-then-same_bytes : goal.returns-then-same_bytes
 returns-then-same_bytes c =
     let a = c.args in

@@ -4,7 +4,6 @@ use Rattle.records.specs.Handles.{word_of}
 use Rattle.memory.specs.Decode.{decode}
 use Rattle.names.specs.Table.{name}
 use Rattle.plans.proofs.Planned.{attribute-live, set_found, set_new}
-use borrow.Author.Rules.{rules}
 use Rattle.plans.proofs.listing.attribute_fits.Goals as goal
 
 pub replacing_fits-requires : goal.replacing_fits-requires

@@ -3,7 +3,6 @@
 use Rattle.records.specs.Handles.{word_of}
 use Rattle.memory.specs.Decode.{decode}
 use Rattle.plans.proofs.Planned.{namespace-live, declare-found, declare-new}
-use borrow.Author.Rules.{rules}
 use Rattle.plans.proofs.listing.namespace_fits.Goals as goal
 
 pub replacing_fits-requires : goal.replacing_fits-requires

@@ -3,7 +3,6 @@
 use Rattle.records.specs.Handles.{word_of}
 use Rattle.memory.specs.Decode.{decode}
 use Rattle.plans.proofs.Replaced.{no-parent, parent-root}
-use borrow.Author.Rules.{rules}
 use Rattle.plans.proofs.setting.under_root.Goals as goal
 
 pub returns-in-None : goal.returns-in-None

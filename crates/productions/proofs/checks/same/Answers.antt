@@ -1,7 +1,6 @@
 -- `productions::checks::same` meets its contract. The invariant: the whole is the same where what is left is.
 -- Assumes nothing.
 use mathlib.Core.Path.{refl}
-use Prim.Native.Nat.{◌-◌}
 use native.Mathlib.Omega.{arith}
 use Rattle.productions.proofs.Spelling.{spells-length, spells-apart, spells-more, spells-all}
 use Rattle.productions.proofs.checks.same.Goals as goal

@@ -1,6 +1,5 @@
 -- `reading::node::first_element` meets its contract. The invariant: what is found in the block is what is found in the part that is left.
 -- Assumes nothing.
-use Prim.Native.Nat.{◌-◌}
 use native.Mathlib.Omega.{arith}
 use Rattle.model.specs.Kinds.{children}
 use Rattle.model.specs.Doc.{shows_element}

@@ -1,6 +1,6 @@
 -- `releasing::release::close_gaps` meets its contract.
 -- Assumes nothing.
-use Prim.Native.Nat.{◌+◌, ◌-◌}
+use Prim.Native.Nat.{◌+◌}
 use native.Mathlib.Omega.{arith}
 use Rattle.releasing.proofs.Gaps.{closing-first, from-used, size-closing, end-above, end-used, kept-most, closing-next, closed}
 use Rattle.releasing.proofs.release.close_gaps.Goals as goal

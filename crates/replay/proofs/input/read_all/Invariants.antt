@@ -1,6 +1,6 @@
 -- `replay::input::read_all` is safe and ends.
 -- Assumes nothing.
-use Rattle.std.proofs.Common.{◌≡◌, ◌-◌, ◌≤◌, length}
+use Rattle.std.proofs.Common.{◌≡◌, ◌≤◌, length}
 use Rattle.replay.proofs.input.read_all.Given as goal
 
 abbrev pub invariant-loop-turns : goal.invariant-loop-turns

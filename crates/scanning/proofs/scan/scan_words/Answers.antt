@@ -1,7 +1,6 @@
 -- `scanning::scan::scan_words` meets its contract. The invariant: the rule finds in the whole what it finds in what is left.
 -- Assumes nothing.
 use mathlib.Core.Path.{refl}
-use Prim.Native.Nat.{◌-◌}
 use native.Mathlib.Omega.{arith}
 use Rattle.scanning.proofs.Passes.{turned_left, bad-left, nothing_left, few-more}
 use Rattle.scanning.proofs.scan.scan_words.Goals as goal

@@ -1,6 +1,6 @@
 -- `slots::rule::check_words` meets its contract. The invariant: the words of the slots passed are within their fields.
 -- Assumes nothing.
-use Rattle.std.proofs.Common.{◌-◌, true, arith}
+use Rattle.std.proofs.Common.{arith}
 use Rattle.slots.proofs.WordsRule.{words-none, words-next, words-not, words-all}
 use Rattle.slots.proofs.rule.check_words.Goals as goal
 

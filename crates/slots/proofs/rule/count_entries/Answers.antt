@@ -1,6 +1,6 @@
 -- `slots::rule::count_entries` meets its contract. The invariant, `Counting`: the entries passed are slots made, and each mark is how often its slot stands among them.
 -- Assumes nothing.
-use Rattle.std.proofs.Common.{◌-◌, arith}
+use Rattle.std.proofs.Common.{arith}
 use Rattle.slots.proofs.FreeRule.{counting-none, counting-next, counting-fits, counted-not, counted-all}
 use Rattle.slots.proofs.rule.count_entries.Goals as goal
 

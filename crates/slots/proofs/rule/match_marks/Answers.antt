@@ -1,6 +1,6 @@
 -- `slots::rule::match_marks` meets its contract. The invariant: the marks passed match.
 -- Assumes nothing.
-use Rattle.std.proofs.Common.{◌-◌, true, arith}
+use Rattle.std.proofs.Common.{arith}
 use Rattle.slots.proofs.FreeRule.{match_none, match-not, match-next, match-all}
 use Rattle.slots.proofs.rule.match_marks.Goals as goal
 

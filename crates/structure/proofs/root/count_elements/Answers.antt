@@ -1,9 +1,8 @@
 -- `structure::root::count_elements` meets its contract.
 -- Assumes nothing.
 use Rattle.layout.proofs.Sizes.{sizes}
-use mathlib.Core.Logic.{⊎_elim}
 use mathlib.Core.Path.{◌≡◌}
-use Prim.Native.Nat.{◌+◌, ◌-◌, ◌<◌}
+use Prim.Native.Nat.{◌+◌, ◌<◌}
 use native.Mathlib.Omega.{arith}
 use lib.ListN.{length}
 use Rattle.model.specs.Kinds.{children}
@@ -47,8 +46,9 @@ loop-k-preserved c =
     omega (arith, c.requires.1, c.loop-k-test.true, length_ids c.args.d c.args.mem.now c.requires.0 children) in (
       omega arith,
       elim c.if-shows_element.branch [
-          then-shows_element w ↦ counted-yes (element_test (decode_nodes c.args.d c.args.mem.now)) (arena_in c.args.d children c.args.mem.now).ids c.args.start i.k i.count _ h c.entry-word.ensures i.invariant.1 _ c.shows_element.ensures _ w.if-shows_element.true w.count-is
-        | else-shows_element w ↦ counted-no (element_test (decode_nodes c.args.d c.args.mem.now)) (arena_in c.args.d children c.args.mem.now).ids c.args.start i.k i.count _ h c.entry-word.ensures i.invariant.1 _ c.shows_element.ensures _ w.if-shows_element.false w.count-is ],
+        | then-shows_element w ↦ counted-yes (element_test (decode_nodes c.args.d c.args.mem.now)) (arena_in c.args.d children c.args.mem.now).ids c.args.start i.k i.count _ h c.entry-word.ensures i.invariant.1 _ c.shows_element.ensures _ w.if-shows_element.true w.count-is
+        | else-shows_element w ↦ counted-no (element_test (decode_nodes c.args.d c.args.mem.now)) (arena_in c.args.d children c.args.mem.now).ids c.args.start i.k i.count _ h c.entry-word.ensures i.invariant.1 _ c.shows_element.ensures _ w.if-shows_element.false w.count-is
+      ],
     )
 
 pub returns : goal.returns

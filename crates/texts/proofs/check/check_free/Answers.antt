@@ -46,7 +46,6 @@ module _ (words : List ℕ) (base n made : ℕ) where
           let q = eq-eqb (get_or words (get_or words (base + k) 0) 0) (start_of words (get_or words (base + k) 0)) (omega arith) in
           opened ∙ rw (lt-ltb (get_or words (base + k) 0) made g, q)
 
-
 pub loop-k-init : goal.loop-k-init
 loop-k-init c =
     let a = c.args in

@@ -2,7 +2,7 @@
 -- Assumes nothing.
 use mathlib.Core.Path.{◌≡◌, refl, sym, ap, ◌∙◌}
 use mathlib.Core.List.{List}
-use Prim.Native.Nat.{ℕ, ◌+◌, ◌-◌, ◌≤◌, ◌<◌}
+use Prim.Native.Nat.{ℕ, ◌+◌, ◌≤◌, ◌<◌}
 use native.Mathlib.Numerals.{add-one}
 use native.Mathlib.Omega.{arith}
 use lib.ListN.{length, get_or, set, length-set}
@@ -35,7 +35,6 @@ module _ (words marks₀ marks : List ℕ) (base n k : ℕ) (h : k < n) (f : bas
   turn =
       rw (inv, add-one k)
       (sym (ap (λ (l : List ℕ). marked l marks₀) (part-snoc words base k 0 (omega arith)) ∙ marked-snoc (part base k words) marks₀ (get_or words (base + k) 0)))
-
 
 first : (words marks : List ℕ) (base : ℕ) → marks ≡ marked (part base 0 words) marks
 first words marks base = sym (ap (λ (l : List ℕ). marked l marks) (part_none words base))

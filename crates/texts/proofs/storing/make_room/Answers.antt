@@ -55,7 +55,6 @@ module _ (limits : TextLimits) (counts : TextCounts) (words : List ℕ) (slot st
     none-moved : get_or words slot 0 - start ≡ len → words ≡ roomed limits counts words slot len
     none-moved q = sym (roomed-same limits counts words h slot m len (sym held ∙ q))
 
-
 pub overflow_sub-old : goal.overflow_sub-old
 overflow_sub-old c =
     let a = c.args in

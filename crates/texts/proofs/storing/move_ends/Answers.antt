@@ -41,7 +41,6 @@ module _ (words₀ words : List ℕ) (slot n old len k : ℕ) (p : Movable words
       ∙ set-put-after words₀ slot (map f (part slot k words₀)) (f (get_or words₀ (slot + k) 0)) (omega (arith, size, p.inside))
       ∙ ap (λ (l : List ℕ). put slot l words₀) e
 
-
 first : (words : List ℕ) (slot old len : ℕ) → words ≡ put slot (map (moved_end old len) (part slot 0 words)) words
 first words slot old len =
     sym (ap (λ (l : List ℕ). put slot (map (moved_end old len) l) words) (part_none words slot) ∙ put-nil words slot [])

@@ -22,7 +22,6 @@ module _ (limits : TextLimits) (counts : TextCounts) (words : List ℕ) (slot : 
       → (room.len ≡ length_of words slot) × (after ≡ rewritten limits counts words slot t)
   written t roomy after f g = (ap (λ (p : Place). p.len) e, rw (starts, f) at g)
 
-
 pub write_bytes-requires : goal.write_bytes-requires
 write_bytes-requires c =
     let a = c.args in

@@ -1,7 +1,6 @@
 -- `vectors::cases::number_of_stored` is safe and ends.
 -- Assumes nothing.
 use mathlib.Core.Path.{sym}
-use Prim.Native.Nat.{◌-◌}
 use native.Mathlib.Omega.{arith}
 use lib.Seq.{length-take-le}
 use Rattle.vectors.proofs.cases.number_of_stored.Goals as goal

@@ -21,7 +21,6 @@ module _ (count used i : ℕ) (words : List ℕ) (t : Bool) (e : t ≡ piece_the
   nowhere : t ≡ false → record { start = 0; len = 0 } ≡ piece_place count used i words
   nowhere q = sym (place-nowhere count used i words (sym e ∙ q))
 
-
 pub piece_start-start-requires : goal.piece_start-start-requires
 piece_start-start-requires c =
     let a = c.args in

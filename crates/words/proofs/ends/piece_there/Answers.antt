@@ -18,7 +18,6 @@ module _ (words : List ℕ) (count used i start : ℕ) (e : start ≡ start_of w
   falls : get_or words i 0 < start → false ≡ piece_there count used i words
   falls h = sym (there-falls count used i words (omega arith))
 
-
 pub returns-then-piece_start-end : goal.returns-then-piece_start-end
 returns-then-piece_start-end c =
     let a = c.args in
