@@ -71,7 +71,7 @@ zone-stands =
     (one-event handles begun.document begun.memory seed zone_made fresh (promised begun zone_made fresh computed.zone-made) computed.told.0).0
 
 called : Called (counted 1 0 0 true) (replicate 80 0) register
-called = (promised begun zone_made fresh computed.zone-made, (promised zone_made inner_made zone-stands computed.inner_made, tt))
+called = (promised begun zone_made fresh computed.zone-made, (promised zone_made inner_made zone-stands computed.inner-made, tt))
 
 built : Standing inner_made (tree_end handles register seed)
 built = stands_after limits (replicate 80 7) (replicate 80 0) (counted 1 0 0 true) started register called handles refl computed.told
@@ -119,7 +119,7 @@ example =
       later = (refl, refl);
       renewals = (
         renewal zone_move inner_move zone_earlier inner_later refl refl computed.zone-earlier computed.inner-later zone_first_renewed refl computed.zone-first,
-        renewal inner_move zone_move inner_earlier zone_later refl refl computed.inner-earlier computed.zone-later inner_first_renewed refl computed.inner_first,
+        renewal inner_move zone_move inner_earlier zone_later refl refl computed.inner-earlier computed.zone-later inner_first_renewed refl computed.inner-first,
       );
       renewed_keys = (refl, refl);
       alike =
