@@ -11,7 +11,7 @@ use lib.Dec.{eqb}
 use borrow.Author.Tests.{eq-eqb, ne_eqb}
 use Rattle.words.specs.Parts.{part, put}
 use Rattle.words.specs.Lists.{all}
-use Rattle.words.proofs.Parts.{get_d_part, length_part, length-put, get_d-put-before, get_d-put-after, part-put-same}
+use Rattle.words.proofs.Parts.{get_or-part, length_part, length-put, get_or-put-before, get_or-put-after, part-put-same}
 use Rattle.blocks.specs.Arena.{Arena, Block, cap_of}
 use Rattle.blocks.specs.Rule.{Apart, empty_left, empty_right, before, behind, Shaped, BlocksApart}
 use Rattle.blocks.specs.Claims.{ApartBefore, block_claimable, block_claimed, Covers, Marked}
@@ -115,7 +115,7 @@ module _ (a : Arena) (B : ℕ → Block) (k : ℕ) (m : List ℕ) (marks : Marke
             let z : get_or (part s n m) (p - s) 0 ≡ 0 = zero-all (part s n m) (claimable-clear m s n e) (p - s) (omega (arith, length_part m s n fit, y.low, y.high)) in
             let q : s + (p - s) ≡ p = omega (arith, y.low) in
             marks.outside p (omega (arith, y.high, fit))
-            (ap (λ (j : ℕ). get_or m j 0) (sym q) ∙ sym (get_d_part m s n (p - s) 0 (omega (arith, y.low, y.high))) ∙ z) i h x
+            (ap (λ (j : ℕ). get_or m j 0) (sym q) ∙ sym (get_or-part m s n (p - s) 0 (omega (arith, y.low, y.high))) ∙ z) i h x
 
         go : (i : ℕ) → i < k → Dec ((B k).len ≡ 0) → Dec ((B i).len ≡ 0) → Dec ((B i).start + cap_of a (B i) ≤ s) → Dec (s + n ≤ (B i).start) → Apart a (B i) (B k)
         go i h (yes z) u v w = empty_right z
@@ -137,7 +137,7 @@ module _ (a : Arena) (B : ℕ → Block) (k : ℕ) (m : List ℕ) (marks : Marke
         let same : part s n m' ≡ replicate n 1 =
         ap (λ (j : ℕ). part s j m') (sym (length-replicate n 1)) ∙ part-put-same m s (replicate n 1) (omega (arith, fit)) in
         ap (λ (j : ℕ). get_or m' j 0) (sym q)
-        ∙ sym (get_d_part m' s n (p - s) 0 (omega arith))
+        ∙ sym (get_or-part m' s n (p - s) 0 (omega arith))
         ∙ ap (λ (r : List ℕ). get_or r (p - s) 0) same
         ∙ get_or-replicate n (p - s) 1 0 (omega arith)
 
@@ -146,9 +146,9 @@ module _ (a : Arena) (B : ℕ → Block) (k : ℕ) (m : List ℕ) (marks : Marke
     claimed-elsewhere p h = go (dec_lt p s) (dec_lt p (s + n))
       where
         go : Dec (p < s) → Dec (p < s + n) → get_or m' p 0 ≡ get_or m p 0
-        go (yes l) u = get_d-put-before m s (replicate n 1) p 0 l (omega (arith, fit))
+        go (yes l) u = get_or-put-before m s (replicate n 1) p 0 l (omega (arith, fit))
         go (no l) (yes u) = absurd (h (record { low = omega arith; high = u }))
-        go (no l) (no u) = get_d-put-after m s (replicate n 1) p 0 (omega (arith, length-replicate {A = ℕ} n 1)) (omega (arith, fit))
+        go (no l) (no u) = get_or-put-after m s (replicate n 1) p 0 (omega (arith, length-replicate {A = ℕ} n 1)) (omega (arith, fit))
 
     claimed-length : length m' ≡ length m
     unfolding m'
@@ -183,7 +183,7 @@ module _ (a : Arena) (B : ℕ → Block) (k : ℕ) (m : List ℕ) (marks : Marke
     where
       clear : s + n ≤ length m → (i : ℕ) → i < n → get_or (part s n m) i 0 ≡ 0
       clear within i g =
-          get_d_part m s n i 0 g
+          get_or-part m s n i 0 g
           ∙ marks.clean (s + i) (λ j l x. apart-not (s + i) (f.apart j l) x (record { low = omega arith; high = omega arith }))
 
   -- the claim is refused: the block does not lie so

@@ -10,7 +10,7 @@ use Rattle.words.specs.Lists.{count_of, insert_at, without}
 use Rattle.words.proofs.Lists.{count_of-insert_at, count_of-without-other, without-one-less}
 use Rattle.blocks.specs.Arena.{Arena, Block, list_of, has_room, inserted, inserted_at, removed}
 use Rattle.blocks.specs.Rule.{BlocksApart}
-use Rattle.blocks.proofs.Lists.{get_d-insert_at}
+use Rattle.blocks.proofs.Lists.{get_or-insert_at}
 use Rattle.blocks.proofs.Edits.{list_length}
 use Rattle.blocks.proofs.Insertion.{insert-promise}
 use Rattle.blocks.proofs.Removal.{remove-promise}
@@ -31,7 +31,7 @@ module _ (a : Arena) (B : ℕ → Block) (i : ℕ) (rule : BlocksApart a B) (x :
       ap (λ (l : List ℕ). get_or l (inserted_at (B i) k) x)
       (edited-list a B i (insert_at k id (list_of a (B i))) (inserted a (B i) k id).arena (inserted a (B i) k id).block (insert-promise a B i rule k id r))
       ∙ ap (λ (n : ℕ). get_or (insert_at k id (list_of a (B i))) (min k n) x) (sym (list_length a (B i) rule.shaped (rule.inside i)))
-      ∙ get_d-insert_at k id (list_of a (B i)) x
+      ∙ get_or-insert_at k id (list_of a (B i)) x
 
   -- the id once less, where it stands there
   pub count-removed : count_of (eqb x) (list_of (removed a (B i) x).arena (removed a (B i) x).block) ≡ count_of (eqb x) (list_of a (B i)) - 1

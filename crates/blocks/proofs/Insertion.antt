@@ -10,7 +10,7 @@ use lib.ListN.{length, get_or, set, replicate, length-set}
 use lib.Seq.{get_or-set_same, get_or-set_other, set_out}
 use Rattle.words.specs.Parts.{part, put}
 use Rattle.words.specs.Lists.{insert_at}
-use Rattle.words.proofs.Parts.{part-put-same, part-put-before, get_d-put-before, length-put}
+use Rattle.words.proofs.Parts.{part-put-same, part-put-before, get_or-put-before, length-put}
 use Rattle.blocks.specs.Arena.{Arena, Block, block, capacity_of, cap_of, list_of, has_room, moved_capacity, unrecorded, inserted, inserted_in_place, inserted_moved}
 use Rattle.blocks.specs.Rule.{Inside, Apart, empty_left, empty_right, before, behind, Shaped, BlocksApart, Edited}
 use Rattle.blocks.proofs.Capacities.{capacity-empty, capacity-some, capacity-least, spare-some, capacity-grown, capacity-less}
@@ -85,7 +85,7 @@ module _ (a : Arena) (b : Block) (sh : Shaped a) (inb : Inside a b) where
               (omega (
                 arith,
                 erased c.start,
-                get_d-put-before (set a.caps b.start 0) a.used (replicate (moved_capacity b.len) 0) c.start 0
+                get_or-put-before (set a.caps b.start 0) a.used (replicate (moved_capacity b.len) 0) c.start 0
                     (omega (arith, ic.below, capacity-least a.caps c)) (simp length-set (omega (arith, sh.paired))),
                 get_or-set_other fresh a.used c.start (moved_capacity b.len) 0 (λ e. omega (arith, ic.below, capacity-least a.caps c)),
               ))

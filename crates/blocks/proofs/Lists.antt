@@ -12,7 +12,7 @@ use borrow.Author.Tests.{eq-eqb}
 use Rattle.words.specs.Parts.{put}
 use Rattle.words.specs.Lists.{insert_at, all, count_of, sum, tabulate}
 use Rattle.words.proofs.Parts.{length-put, part-put-same, put_front, put-put}
-use Rattle.words.proofs.Lists.{map-append, length-tabulate, get_d_tabulate}
+use Rattle.words.proofs.Lists.{map-append, length-tabulate, get_or-tabulate}
 
 module _ {A : Type 0} where
   -- two lists put one after the other
@@ -23,15 +23,15 @@ module _ {A : Type 0} where
       ∙ ap (λ (r : List A). put p (r ++ ys) (put p xs l)) (part-put-same l p xs (omega arith))
       ∙ put-put l p (xs ++ ys) xs (omega arith) (simp length-append (omega arith)))
 
-  pub get_d-insert_at : (k : ℕ) (x : A) (l : List A) (d : A) → get_or (insert_at k x l) (min k (length l)) d ≡ x
+  pub get_or-insert_at : (k : ℕ) (x : A) (l : List A) (d : A) → get_or (insert_at k x l) (min k (length l)) d ≡ x
   unfolding insert_at
-  get_d-insert_at k x l d = get_or_at (take k l) x (drop k l) d (min k (length l)) (length-take k l)
+  get_or-insert_at k x l d = get_or_at (take k l) x (drop k l) d (min k (length l)) (length-take k l)
 
   -- a list is the table of its entries
-  pub tabulate-get_d : (l : List A) (d : A) → tabulate (λ (i : ℕ). get_or l i d) (length l) ≡ l
-  tabulate-get_d l d =
+  pub tabulate-get_or : (l : List A) (d : A) → tabulate (λ (i : ℕ). get_or l i d) (length l) ≡ l
+  tabulate-get_or l d =
       ext_get_or d (tabulate (λ (i : ℕ). get_or l i d) (length l)) l (length-tabulate (λ (i : ℕ). get_or l i d) (length l))
-      (λ i h. get_d_tabulate (λ (j : ℕ). get_or l j d) (length l) i d (rw (length-tabulate (λ (j : ℕ). get_or l j d) (length l)) at h))
+      (λ i h. get_or-tabulate (λ (j : ℕ). get_or l j d) (length l) i d (rw (length-tabulate (λ (j : ℕ). get_or l j d) (length l)) at h))
 
   pub map_same : {B : Type 0} (f g : A → B) (l : List A) → ((x : A) → f x ≡ g x) → map f l ≡ map g l
   map_same f g [] h = refl

@@ -16,7 +16,7 @@ use Rattle.blocks.specs.Arena.{Arena, Block, block, cap_of, list_of}
 use Rattle.blocks.specs.Rule.{BlocksApart}
 use Rattle.blocks.specs.Claims.{ApartBefore, block_claimable, block_claimed, Marked}
 use Rattle.blocks.specs.Compact.{cleared, lay_owners, lengths, Laid}
-use Rattle.blocks.proofs.Lists.{map_same, all-count, count-replicate, sum-append, map-tabulate, tabulate-get_d, twice_there}
+use Rattle.blocks.proofs.Lists.{map_same, all-count, count-replicate, sum-append, map-tabulate, tabulate-get_or, twice_there}
 use Rattle.blocks.proofs.Capacities.{capacity-least}
 use Rattle.blocks.proofs.Claims.{marked-none, marked_more, claim-apart}
 use Rattle.blocks.proofs.Edits.{list_length}
@@ -97,7 +97,7 @@ lists-fit a B order rule once =
 
     table : map (λ (i : ℕ). (B i).len) order ≡ tabulate (λ (k : ℕ). (B (owner k)).len) (length order)
     table =
-        ap (map (λ (i : ℕ). (B i).len)) (sym (tabulate-get_d order 0))
+        ap (map (λ (i : ℕ). (B i).len)) (sym (tabulate-get_or order 0))
         ∙ map-tabulate (λ (i : ℕ). (B i).len) (λ (k : ℕ). get_or order k 0) (length order)
 
     fits : (k : ℕ) → k < length order → ApartBefore a (λ (k : ℕ). B (owner k)) k

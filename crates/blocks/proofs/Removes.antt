@@ -19,13 +19,6 @@ use Rattle.blocks.proofs.Edits.{removed-there, removed-absent, without-length}
 use Rattle.blocks.proofs.Halves.{ids-length, put-set-ids, shaped-held, inside-held, half, held_fits, block-ids}
 use Rattle.blocks.proofs.Removal.{takes-removed}
 
--- the record of a block that loses an id
-pub shrunk-none : (n cap : ℕ) → n ≡ 1 → 0 ≡ cond (eqb n 1) 0 cap
-shrunk-none n cap e = sym (rw (eq-eqb n 1 e))
-
-pub shrunk-kept : (n cap r : ℕ) → (n ≡ 1 → ⊥) → r ≡ cap → r ≡ cond (eqb n 1) 0 cap
-shrunk-kept n cap r h e = rw (ne_eqb n 1 h) e
-
 -- ---- removal, whatever the length in use
 
 pub stored-record : (l m : List ℕ) (i v : ℕ) → l ≡ m → set l i v ≡ set m i v

@@ -13,7 +13,7 @@ use lib.ListN.{length, get_or, drop}
 use Rattle.words.specs.Lists.{index_of}
 use Rattle.words.proofs.Tests.{and_left, and_right}
 use Rattle.laws.proofs.Wf.{Distinct}
-use Rattle.laws.proofs.Counting.{mem-get_d}
+use Rattle.laws.proofs.Counting.{mem-get_or}
 use Rattle.steps.specs.Next.{hinted_index}
 
 -- what stands behind x
@@ -25,7 +25,7 @@ pub index_at : (l : List ℕ) (k : ℕ) → Distinct l → k < length l → inde
 index_at [] k u h = absurd (omega arith)
 index_at (y ∷ l) zero u h = rw (eq-eqb y y refl)
 index_at (y ∷ l) (suc k) u h =
-    let m = mem-get_d l k 0 (omega arith) in
+    let m = mem-get_or l k 0 (omega arith) in
     let n : get_or l k 0 ≢ y = λ e. u.0 (subst (λ (z : ℕ). Memᴰ z l) e m) in
     rw (ne_eqb (get_or l k 0) y n) (ap suc (index_at l k u.1 (omega arith)))
 

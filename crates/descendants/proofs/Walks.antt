@@ -19,7 +19,7 @@ use Rattle.model.specs.Tree.{Tree}
 use Rattle.laws.proofs.Wf.{Distinct, Ends, WF}
 use Rattle.laws.proofs.Sim.{Sim}
 use Rattle.laws.proofs.Basics.{resolves-live, hs-injective, count-mem}
-use Rattle.laws.proofs.Counting.{mem-get_d, count-once}
+use Rattle.laws.proofs.Counting.{mem-get_or, count-once}
 use Rattle.laws.proofs.Nested.{nested}
 use Rattle.laws.proofs.Membership.{distinct-map, distinct-joined, mem-joined-cases}
 use Rattle.laws.proofs.Explained.{shown-list}
@@ -36,10 +36,10 @@ use Rattle.descendants.specs.Walking.{listed, list_from, walked, below, descenda
 use Rattle.descendants.proofs.Hints.{behind, hinted-is, index-map, behind-cons, behind-nil, behind-first}
 use Rattle.descendants.proofs.Stack.{up, strict}
 
-get_d_map : (f : ℕ → ℕ) (l : List ℕ) (k : ℕ) → k < length l → get_or (map f l) k 0 ≡ f (get_or l k 0)
-get_d_map f [] k h = absurd (omega arith)
-get_d_map f (y ∷ l) zero h = refl
-get_d_map f (y ∷ l) (suc k) h = get_d_map f l k (omega arith)
+get_or-map_inside : (f : ℕ → ℕ) (l : List ℕ) (k : ℕ) → k < length l → get_or (map f l) k 0 ≡ f (get_or l k 0)
+get_or-map_inside f [] k h = absurd (omega arith)
+get_or-map_inside f (y ∷ l) zero h = refl
+get_or-map_inside f (y ∷ l) (suc k) h = get_or-map_inside f l k (omega arith)
 
 distinct-count : (x : ℕ) (l : List ℕ) → Distinct l → count_of (eqb x) l ≤ 1
 distinct-count x l u = go (dec_lt 0 (count_of (eqb x) l))
@@ -85,9 +85,9 @@ module _ {d : Doc} {t : Tree} {hs : ℕ → ℕ} (S : Sim d t hs) (W : WF t) (z 
       → ((w : Below t.parent z (get_or (kids q) k 0)) → up t z w ≡ behind (get_or (kids q) k 0) (kids q) ++ l → Outcome p (visit_entry d p (hs q) (map hs (kids q)) k) (get_or (kids q) k 0 ∷ (behind (get_or (kids q) k 0) (kids q) ++ l)))
   visits p q k lq r h l w e =
       let y : ℕ = get_or (kids q) k 0 in
-      let ly = (kid q y lq (mem-get_d (kids q) k 0 h)).0 in
-      let g : get_or (map hs (kids q)) k 0 ≡ hs y = get_d_map hs (kids q) k h in
-      let v : names_parent d (hs q) (get_or (map hs (kids q)) k 0) ≡ true = ap (names_parent d (hs q)) g ∙ ap (any_option (eqb (hs q))) (parent-shown y q ly (kid q y lq (mem-get_d (kids q) k 0 h)).1) ∙ eq-eqb (hs q) (hs q) refl in
+      let ly = (kid q y lq (mem-get_or (kids q) k 0 h)).0 in
+      let g : get_or (map hs (kids q)) k 0 ≡ hs y = get_or-map_inside hs (kids q) k h in
+      let v : names_parent d (hs q) (get_or (map hs (kids q)) k 0) ≡ true = ap (names_parent d (hs q)) g ∙ ap (any_option (eqb (hs q))) (parent-shown y q ly (kid q y lq (mem-get_or (kids q) k 0 h)).1) ∙ eq-eqb (hs q) (hs q) refl in
       inr (record {
         to = record { zone = p.zone; node = get_or (map hs (kids q)) k 0; hints = with_hint p.hints (length (map hs (kids q))) k; left = min p.left d.limits.nodes - 1 };
         here = y;
@@ -113,7 +113,7 @@ module _ {d : Doc} {t : Tree} {hs : ℕ → ℕ} (S : Sim d t hs) (W : WF t) (z 
       → Outcome p (visit_entry d p (hs q) (map hs (kids q)) k) (get_or (kids q) k 0 ∷ (behind (get_or (kids q) k 0) (kids q) ++ up t z r))
   visits-in p q k lq r h =
       let y : ℕ = get_or (kids q) k 0 in
-      let e = (kid q y lq (mem-get_d (kids q) k 0 h)).1 in
+      let e = (kid q y lq (mem-get_or (kids q) k 0 h)).1 in
       visits p q k lq r h (up t z r) (Below.down q e r) (down-up q y e r)
 
   -- the lists of the nodes on a way up have no birth in common

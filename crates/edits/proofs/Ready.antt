@@ -9,9 +9,9 @@ use native.Mathlib.Omega.{arith}
 use lib.ListN.{length, get_or}
 use lib.Dec.{eqb}
 use Rattle.words.specs.Lists.{count_of}
-use Rattle.words.proofs.Lists.{length-tabulate, get_d_tabulate}
+use Rattle.words.proofs.Lists.{length-tabulate, get_or-tabulate}
 use Rattle.words.proofs.Tests.{and_left}
-use Rattle.texts.proofs.Lists.{get_d-count}
+use Rattle.texts.proofs.Lists.{get_or-count}
 use Rattle.records.specs.Handles.{handle_index, handle_generation}
 use Rattle.slots.specs.Regions as regions
 use Rattle.model.specs.Kinds.{Kind, root, element, attribute, text, comment, namespace, instruction, Which, children, attributes, namespaces, owns, which_of}
@@ -84,7 +84,7 @@ module _ (d : Document) (mem : List ℕ) (ok : memory_ok d (length mem) ≡ true
           let n = d.limits.nodes in
           let g = regions.generation_at n (slots_part d mem) in
           let c : s < slots_made d = omega (arith, length-tabulate g (slots_made d)) in
-          get_d_tabulate g (slots_made d) s 1 c ∙ sym (get_d_tabulate g (slots_made d) s 0 c)
+          get_or-tabulate g (slots_made d) s 1 c ∙ sym (get_or-tabulate g (slots_made d) s 0 c)
 
       odd-of : (g k : ℕ) → 0 < k → k ≡ g % 2 → g % 2 ≡ 1
       odd-of g k b e = omega arith
@@ -94,7 +94,7 @@ module _ (d : Document) (mem : List ℕ) (ok : memory_ok d (length mem) ≡ true
           let s = get_or (decode d mem).free i 0 in
           let e = same-default s (r.free_list.inside i b) in
           let q = r.free_list.once s (r.free_list.inside i b) in
-          let c = get_d-count (decode d mem).free i b in
+          let c = get_or-count (decode d mem).free i b in
           ap (λ (g : ℕ). g % 2) e ∙ odd-of (get_or (decode d mem).gens s 0) (count_of (eqb s) (decode d mem).free) c q
 
   pub rules-appendable : (w : Which) (p : ℕ) → resolves (decode d mem) p ≡ true → owns w (kind_at (decode d mem) p) ≡ true

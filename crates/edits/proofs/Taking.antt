@@ -10,7 +10,7 @@ use lib.ListN.{length, get_or}
 use lib.Dec.{ltb}
 use borrow.Author.Tests.{lt-ltb}
 use Rattle.words.specs.Lists.{tabulate}
-use Rattle.words.proofs.Lists.{length-tabulate, get_d_tabulate}
+use Rattle.words.proofs.Lists.{length-tabulate, get_or-tabulate}
 use Rattle.slots.specs.Regions.{generation_at, free_at}
 use Rattle.slots.specs.Slots.{has_slot, CanTake}
 use Rattle.model.specs.Calls.{slot_fits_from}
@@ -69,5 +69,5 @@ module _ (d : Document) (mem : List ℕ) (c : CanBear d mem) where
         free-slots = omega arith;
         slot = has-slot;
         rule-2 = λ i b. omega (arith, long-gens, entries_below (free_at n w) (slots_free d) (length gens) c.ready.inside i b);
-        rule-1 = λ s b. omega (arith, get_d_tabulate (generation_at n w) (slots_made d) s 0 b, c.ready.generations s (omega (arith, long-gens)));
+        rule-1 = λ s b. omega (arith, get_or-tabulate (generation_at n w) (slots_made d) s 0 b, c.ready.generations s (omega (arith, long-gens)));
       }

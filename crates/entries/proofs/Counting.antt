@@ -12,7 +12,7 @@ use lib.Dec.{eqb}
 use borrow.Author.Tests.{ne_eqb}
 use Rattle.words.specs.Parts.{part}
 use Rattle.words.specs.Lists.{all, all_below}
-use Rattle.words.proofs.Parts.{length_part, get_d_part}
+use Rattle.words.proofs.Parts.{length_part, get_or-part}
 use Rattle.blocks.specs.Arena.{block, cap_of}
 use Rattle.records.specs.Handles.{handle_index}
 use Rattle.model.specs.Kinds.{Which, children, attributes, namespaces}
@@ -64,7 +64,7 @@ module _ (made : ℕ) (q : ℕ → Bool) (ids : List ℕ) (start len : ℕ) (bef
 
   entry_of : (k : ℕ) (m n : List ℕ) (r : Bool) → k < len → Pass made (q (get_or ids (start + k) 0)) (handle_index (get_or ids (start + k) 0) ∷ []) m n r
       → Pass made (q (get_or (part start len ids) k 0)) (handle_index (get_or (part start len ids) k 0) ∷ []) m n r
-  entry_of k m n r h p = rw (get_d_part ids start len k 0 h) p
+  entry_of k m n r h p = rw (get_or-part ids start len k 0 h) p
 
   block-of : (m : List ℕ) (r : Bool) → start + len ≤ length ids
       → Pass made (all_below (λ i. q (get_or (part start len ids) i 0)) len) (gathered (λ i. handle_index (get_or (part start len ids) i 0) ∷ []) len) before m r

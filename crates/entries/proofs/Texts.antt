@@ -13,11 +13,11 @@ use Rattle.words.specs.Parts.{part}
 use Rattle.words.specs.Lists.{count_of, all, all_below}
 use Rattle.words.specs.Ends.{start_of, length_of}
 use Rattle.words.proofs.Parts.{length_part}
-use Rattle.words.proofs.Lists.{length-tabulate, get_d_tabulate, all_below-next, all_below-not, all_below-same}
+use Rattle.words.proofs.Lists.{length-tabulate, get_or-tabulate, all_below-next, all_below-not, all_below-same}
 use Rattle.words.proofs.Tests.{and_left, and_right, eqb_same}
 use Rattle.texts.specs.Words as pool
 use Rattle.texts.specs.Words.{text_shown, free_ok, pool_ok, Markable, marked}
-use Rattle.texts.proofs.Lists.{count_of-reverse, marked-at, get_d-count, all-count}
+use Rattle.texts.proofs.Lists.{count_of-reverse, marked-at, get_or-count, all-count}
 use Rattle.texts.proofs.Words.{shown-text, text-end, text-length}
 use Rattle.names.specs.Words.{table_ok}
 use Rattle.names.proofs.Words.{within-ends}
@@ -73,7 +73,7 @@ module _ (D : Doc) (texts n : ℕ) (m : List ℕ) (size : length m ≡ texts) (c
   markable : (words free : List ℕ) → all (free_ok texts words) free ≡ true → length free ≤ 131072 → Markable free m
   markable words free h k = record {
     inside = λ i q.
-        let y = all-count (free_ok texts words) free (get_or free i 0) h (get_d-count free i q) in
+        let y = all-count (free_ok texts words) free (get_or free i 0) h (get_or-count free i q) in
         let w = ltb-true (get_or free i 0) texts (and_left (ltb (get_or free i 0) texts) (eqb (get_or words (get_or free i 0) 0) (start_of words (get_or free i 0))) y) in
         omega arith;
     small = λ s. omega (arith, small-mark s);
@@ -128,7 +128,7 @@ module _ (d : Document) (mem : List ℕ) (ok : memory_ok d (length mem) ≡ true
     shown-length : (s : ℕ) → s < d.counts.texts → length (get_or (pool_in d mem).texts s []) ≡ length_of (texts_part d mem) s
     shown-length s b =
         ap length
-        (get_d_tabulate (λ s. text_shown (text_limits d) (text_counts d) s (texts_part d mem)) (min d.counts.texts d.limits.texts) s [] (omega (arith, fit.texts))
+        (get_or-tabulate (λ s. text_shown (text_limits d) (text_counts d) s (texts_part d mem)) (min d.counts.texts d.limits.texts) s [] (omega (arith, fit.texts))
         ∙ shown-text (text_limits d) (text_counts d) (texts_part d mem) counts-held s)
         ∙ text-length (text_limits d) (text_counts d) (texts_part d mem) counts-held s b
 

@@ -10,7 +10,7 @@ use native.Mathlib.Decide.{ℕ_discrete}
 use lib.ListN.{length, set, length-reverse}
 use borrow.Author.Tests.{lt-ltb}
 use Rattle.words.specs.Lists.{tabulate}
-use Rattle.words.proofs.Lists.{length-tabulate, get_d_tabulate, tabulate-same, tabulate-set}
+use Rattle.words.proofs.Lists.{length-tabulate, get_or-tabulate, tabulate-same, tabulate-set}
 use Rattle.blocks.specs.Arena.{arena_of}
 use Rattle.slots.specs.Regions.{slots_words, generation_at, free_at, node_at, order_at, put_generation, put_free}
 use Rattle.slots.specs.Slots.{freed_words}
@@ -119,7 +119,7 @@ module _ (d : Document) (mem : List ℕ) (ok : memory_ok d (length mem) ≡ true
   sb = omega (arith, slot-made)
 
   gb : generation_at N W s < 4294967296
-  gb = omega (arith, f.generation, get_d_tabulate (generation_at N W) (slots_made d) s 0 slot-made)
+  gb = omega (arith, f.generation, get_or-tabulate (generation_at N W) (slots_made d) s 0 slot-made)
 
   fb : F < N
   fb = omega (arith, f.room, length-reverse (tabulate (free_at N W) (slots_free d)), length-tabulate (free_at N W) (slots_free d))

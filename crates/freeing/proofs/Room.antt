@@ -20,7 +20,7 @@ use Rattle.model.specs.Doc.{Doc, generation_at, live_slot, resolves, kind_at}
 use Rattle.model.specs.Rules.{slots_held, held_in, held}
 use Rattle.laws.proofs.Wf.{Distinct}
 use Rattle.laws.proofs.Basics.{mem-count, live-even, live-below}
-use Rattle.laws.proofs.Counting.{mem_index, get_d-below}
+use Rattle.laws.proofs.Counting.{mem_index, get_or-below}
 use Rattle.laws.proofs.Freeing.{slots_held-append}
 use Rattle.laws.proofs.Membership.{mem-without-old, distinct_without, distinct_append, distinct-map, mem-map-cases, pigeonhole}
 use Rattle.walks.proofs.Distinct.{count-distinct}
@@ -101,7 +101,7 @@ module _ (D : Doc) (F : Freeable D) (l : List ℕ) (once : (y : ℕ) → count_o
   free-apart s m q =
       let b = free-below s q in
       let e = eqb-true (generation_at D s % 2) 0 (live-even D s (slots-live s m)) in
-      omega (arith, F.free_list.once s b, mem-count s D.free q, ap (λ (g : ℕ). g % 2) (get_d-below D.gens s 1 0 b))
+      omega (arith, F.free_list.once s b, mem-count s D.free q, ap (λ (g : ℕ). g % 2) (get_or-below D.gens s 1 0 b))
 
   free-once : Distinct D.free
   free-once = count-distinct D.free (λ s m. omega (arith, F.free_list.once s (free-below s m)))

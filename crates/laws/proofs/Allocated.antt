@@ -20,7 +20,7 @@ use Rattle.model.specs.Edits.{up}
 use Rattle.model.specs.Tree.{Tree}
 use Rattle.laws.proofs.Wf.{Distinct}
 use Rattle.laws.proofs.Sim.{FreeSlots, Sim}
-use Rattle.laws.proofs.Basics.{get_d-snoc-same, get_d-snoc-other}
+use Rattle.laws.proofs.Basics.{get_or-snoc-same, get_or-snoc-other}
 use Rattle.laws.proofs.Fresh.{up-even}
 
 abbrev pub Kinds : Type 0
@@ -63,16 +63,16 @@ module _ (d : Doc) (t : Tree) (hs : ℕ → ℕ) (S : Sim d t hs) (k : Kind ℕ 
     appended =
         record {
           was = ap even (get_or-eq_default d.gens 1 (omega arith));
-          gen_here = get_d-snoc-same d.gens 0 1;
+          gen_here = get_or-snoc-same d.gens 0 1;
           gen_even = refl;
-          gen_other = λ i n. get_d-snoc-other d.gens 0 1 i n;
+          gen_other = λ i n. get_or-snoc-other d.gens 0 1 i n;
           gen_fits = λ i lt. gen_fits i (simp length-append at lt) (ℕ_discrete i (length d.gens));
-          kind_here = rw (← S.shape.kinds) (get_d-snoc-same d.kinds (some k) none);
-          kind_other = λ i n. get_d-snoc-other d.kinds (some k) none i (λ q. n (q ∙ S.shape.kinds));
-          parent_here = rw (← S.shape.parents) (get_d-snoc-same d.parents none none);
-          parent_other = λ i n. get_d-snoc-other d.parents none none i (λ q. n (q ∙ S.shape.parents));
-          range_here = λ w. rw (← S.shape.ranges w) (get_d-snoc-same (d.ranges w) (block 0 0) (block 0 0));
-          range_other = λ w i n. get_d-snoc-other (d.ranges w) (block 0 0) (block 0 0) i (λ q. n (q ∙ S.shape.ranges w));
+          kind_here = rw (← S.shape.kinds) (get_or-snoc-same d.kinds (some k) none);
+          kind_other = λ i n. get_or-snoc-other d.kinds (some k) none i (λ q. n (q ∙ S.shape.kinds));
+          parent_here = rw (← S.shape.parents) (get_or-snoc-same d.parents none none);
+          parent_other = λ i n. get_or-snoc-other d.parents none none i (λ q. n (q ∙ S.shape.parents));
+          range_here = λ w. rw (← S.shape.ranges w) (get_or-snoc-same (d.ranges w) (block 0 0) (block 0 0));
+          range_other = λ w i n. get_or-snoc-other (d.ranges w) (block 0 0) (block 0 0) i (λ q. n (q ∙ S.shape.ranges w));
           kinds_length = simp length-append (ap (λ (n : ℕ). n + 1) S.shape.kinds);
           parents_length = simp length-append (ap (λ (n : ℕ). n + 1) S.shape.parents);
           ranges_length = λ w. simp length-append (ap (λ (n : ℕ). n + 1) (S.shape.ranges w));
@@ -84,8 +84,8 @@ module _ (d : Doc) (t : Tree) (hs : ℕ → ℕ) (S : Sim d t hs) (k : Kind ℕ 
         }
       where
         gen_fits : (i : ℕ) → i < length d.gens + 1 → Dec (i ≡ length d.gens) → get_or (d.gens ++ (0 ∷ [])) i 0 < 4294967296
-        gen_fits i lt (yes e) = rw (e, get_d-snoc-same d.gens 0 0) (omega arith)
-        gen_fits i lt (no n) = rw (get_d-snoc-other d.gens 0 0 i n) (S.generations i (omega arith))
+        gen_fits i lt (yes e) = rw (e, get_or-snoc-same d.gens 0 0) (omega arith)
+        gen_fits i lt (no n) = rw (get_or-snoc-other d.gens 0 0 i n) (S.generations i (omega arith))
 
     pub appended-free : d.free ≡ [] → (kinds : Kinds) (parents : List (Option ℕ)) (ranges : Which → List Block) (order : List ℕ) (p : Pool) (n : List (Option Name))
         → FreeSlots (with-columns d (d.gens ++ (0 ∷ [])) [] kinds parents ranges order p n)

@@ -31,14 +31,14 @@ module _ {A : Type 0} where
   pub update_other : (f : ℕ → A) (i : ℕ) (v : A) (x : ℕ) → x ≢ i → update f i v x ≡ f x
   update_other f i v x n = rw (ne_eqb x i n)
 
-  pub get_d-snoc-same : (l : List A) (v d : A) → get_or (l ++ (v ∷ [])) (length l) d ≡ v
-  get_d-snoc-same l v d = get_or_at l v [] d (length l) refl
+  pub get_or-snoc-same : (l : List A) (v d : A) → get_or (l ++ (v ∷ [])) (length l) d ≡ v
+  get_or-snoc-same l v d = get_or_at l v [] d (length l) refl
 
-  pub get_d-snoc-other : (l : List A) (v d : A) (j : ℕ) → j ≢ length l → get_or (l ++ (v ∷ [])) j d ≡ get_or l j d
-  get_d-snoc-other [] v d zero n = absurd (n refl)
-  get_d-snoc-other [] v d (suc j) n = refl
-  get_d-snoc-other (x ∷ l) v d zero n = refl
-  get_d-snoc-other (x ∷ l) v d (suc j) n = get_d-snoc-other l v d j (λ e. n (ap suc e))
+  pub get_or-snoc-other : (l : List A) (v d : A) (j : ℕ) → j ≢ length l → get_or (l ++ (v ∷ [])) j d ≡ get_or l j d
+  get_or-snoc-other [] v d zero n = absurd (n refl)
+  get_or-snoc-other [] v d (suc j) n = refl
+  get_or-snoc-other (x ∷ l) v d zero n = refl
+  get_or-snoc-other (x ∷ l) v d (suc j) n = get_or-snoc-other l v d j (λ e. n (ap suc e))
 
 pub same_which-refl : (w : Which) → same_which w w ≡ true
 same_which-refl children = refl

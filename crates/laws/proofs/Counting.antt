@@ -20,10 +20,10 @@ use Rattle.laws.proofs.Basics.{mem-count, count-mem}
 -- ---- entries by index
 
 module _ {A : Type 0} where
-  pub mem-get_d : (l : List A) (i : ℕ) (a : A) → i < length l → Memᴰ (get_or l i a) l
-  mem-get_d [] i a h = absurd (omega arith)
-  mem-get_d (x ∷ l) zero a h = Memᴰ.head refl
-  mem-get_d (x ∷ l) (suc i) a h = Memᴰ.tail (mem-get_d l i a (omega arith))
+  pub mem-get_or : (l : List A) (i : ℕ) (a : A) → i < length l → Memᴰ (get_or l i a) l
+  mem-get_or [] i a h = absurd (omega arith)
+  mem-get_or (x ∷ l) zero a h = Memᴰ.head refl
+  mem-get_or (x ∷ l) (suc i) a h = Memᴰ.tail (mem-get_or l i a (omega arith))
 
   pub mem_index : (l : List A) (x a : A) → Memᴰ x l → (i : ℕ) × (i < length l) × (get_or l i a ≡ x)
   mem_index [] x a m = absurd (Memᴰ.not-nil m)
@@ -35,10 +35,10 @@ module _ {A : Type 0} where
       go ih (inr n) = let o = ih n in (suc o.0, (let h = o.1 in omega arith), o.2)
 
   -- below the length no default is read
-  pub get_d-below : (l : List A) (i : ℕ) (a b : A) → i < length l → get_or l i a ≡ get_or l i b
-  get_d-below [] i a b h = absurd (omega arith)
-  get_d-below (x ∷ l) zero a b h = refl
-  get_d-below (x ∷ l) (suc i) a b h = get_d-below l i a b (omega arith)
+  pub get_or-below : (l : List A) (i : ℕ) (a b : A) → i < length l → get_or l i a ≡ get_or l i b
+  get_or-below [] i a b h = absurd (omega arith)
+  get_or-below (x ∷ l) zero a b h = refl
+  get_or-below (x ∷ l) (suc i) a b h = get_or-below l i a b (omega arith)
 
   -- ---- a test of every entry
 

@@ -153,12 +153,12 @@ module _ {A B : Type 0} where
       go ih (inl e) = (x, Memᴰ.head refl, e)
       go ih (inr m) = let o = ih m in (o.0, Memᴰ.tail o.1, o.2)
 
-  pub map_reverse_aux : (g : A → B) (l r : List A) → map g (reverse_aux l r) ≡ reverse_aux (map g l) (map g r)
-  map_reverse_aux g [] r = refl
-  map_reverse_aux g (x ∷ l) r = map_reverse_aux g l (x ∷ r)
+  pub map-reverse_aux : (g : A → B) (l r : List A) → map g (reverse_aux l r) ≡ reverse_aux (map g l) (map g r)
+  map-reverse_aux g [] r = refl
+  map-reverse_aux g (x ∷ l) r = map-reverse_aux g l (x ∷ r)
 
   pub map-reverse : (g : A → B) (l : List A) → map g (reverse l) ≡ reverse (map g l)
-  map-reverse g l = map_reverse_aux g l []
+  map-reverse g l = map-reverse_aux g l []
 
 module _ {A : Type 0} where
   mem-reverse_aux-cases : (l r : List A) {y : A} → Memᴰ y (reverse_aux l r) → Memᴰ y l ⊎ Memᴰ y r
@@ -173,18 +173,18 @@ module _ {A : Type 0} where
       go (inl q) = inl (Memᴰ.tail q)
       go (inr q) = last (Memᴰ.cases_cons q)
 
-  mem_reverse_aux : (l r : List A) {y : A} → Memᴰ y l ⊎ Memᴰ y r → Memᴰ y (reverse_aux l r)
-  mem_reverse_aux [] r (inl m) = absurd (Memᴰ.not-nil m)
-  mem_reverse_aux [] r (inr m) = m
-  mem_reverse_aux (x ∷ l) r {y} (inl m) = mem_reverse_aux l (x ∷ r) (go (Memᴰ.cases_cons m))
+  mem-reverse_aux : (l r : List A) {y : A} → Memᴰ y l ⊎ Memᴰ y r → Memᴰ y (reverse_aux l r)
+  mem-reverse_aux [] r (inl m) = absurd (Memᴰ.not-nil m)
+  mem-reverse_aux [] r (inr m) = m
+  mem-reverse_aux (x ∷ l) r {y} (inl m) = mem-reverse_aux l (x ∷ r) (go (Memᴰ.cases_cons m))
     where
       go : (y ≡ x) ⊎ Memᴰ y l → Memᴰ y l ⊎ Memᴰ y (x ∷ r)
       go (inl e) = inr (Memᴰ.head e)
       go (inr q) = inl q
-  mem_reverse_aux (x ∷ l) r (inr m) = mem_reverse_aux l (x ∷ r) (inr (Memᴰ.tail m))
+  mem-reverse_aux (x ∷ l) r (inr m) = mem-reverse_aux l (x ∷ r) (inr (Memᴰ.tail m))
 
   pub mem-reverse : (l : List A) {y : A} → Memᴰ y l → Memᴰ y (reverse l)
-  mem-reverse l m = mem_reverse_aux l [] (inl m)
+  mem-reverse l m = mem-reverse_aux l [] (inl m)
 
   pub mem-reverse-old : (l : List A) {y : A} → Memᴰ y (reverse l) → Memᴰ y l
   mem-reverse-old l {y} m = go (mem-reverse_aux-cases l [] m)

@@ -19,7 +19,7 @@ use Rattle.model.specs.Tree.{Tree}
 use Rattle.laws.proofs.Wf.{Distinct}
 use Rattle.laws.proofs.Sim.{Pooled}
 use Rattle.laws.proofs.Membership.{distinct_append}
-use Rattle.laws.proofs.Basics.{get_d-snoc-other, count-mem}
+use Rattle.laws.proofs.Basics.{get_or-snoc-other, count-mem}
 
 -- the free text list: slots made, empty, each once
 pub record FreeOnce (p : Pool) : Type 0 where
@@ -173,7 +173,7 @@ module _ (p : Pool) (b : ℕ) (t : List ℕ) (l : List ℕ) (F : FreeOnce p) (H 
         free_old = λ s m. absurd (Memᴰ.not-nil m);
         covers = λ s lt. covers s lt (ℕ_discrete s x);
         mine = λ s q. absurd (none-ne-some s q);
-        same = λ s lt n q. get_d-snoc-other p.texts (b ∷ t) [] s (λ f. omega arith);
+        same = λ s lt n q. get_or-snoc-other p.texts (b ∷ t) [] s (λ f. omega arith);
       }
     where
       x : ℕ

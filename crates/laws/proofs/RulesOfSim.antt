@@ -23,7 +23,7 @@ use Rattle.laws.proofs.Sim.{Sim, fields}
 use Rattle.laws.proofs.Basics.{live-node, live-below, resolves-live, handle-of-live, hs-injective, count-mem}
 use Rattle.laws.proofs.Shown.{which_of-map, is_element-map, is_root-map, owns-map}
 use Rattle.laws.proofs.Membership.{mem-map, mem-map-cases, mem-joined, mem-joined-cases, distinct-map, distinct-joined}
-use Rattle.laws.proofs.Counting.{mem-get_d, get_d-below, count-absent, count-once, count-unique, below, below-mem, below-distinct}
+use Rattle.laws.proofs.Counting.{mem-get_or, get_or-below, count-absent, count-once, count-unique, below, below-mem, below-distinct}
 
 pub is_root-root : {N T : Type 0} (k : Kind N T) → is_root k ≡ true → k ≡ root
 is_root-root root e = refl
@@ -92,19 +92,19 @@ module _ (d : Doc) (t : Tree) (hs : ℕ → ℕ) (S : Sim d t hs) (W : WF t) whe
 
   free-list-of-sim : FreeList d
   free-list-of-sim = record {
-    inside = λ i h. (S.free.odd (get_or d.free i 0) (mem-get_d d.free i 0 h)).0;
+    inside = λ i h. (S.free.odd (get_or d.free i 0) (mem-get_or d.free i 0 h)).0;
     once = λ s h. go s h (even (generation_at d s)) refl;
   }
     where
       go : (s : ℕ) → s < length d.gens → (q : Bool) → even (generation_at d s) ≡ q → count_of (eqb s) d.free ≡ get_or d.gens s 0 % 2
       go s h true e =
           let c = count-absent s d.free (λ m. true≢false (sym e ∙ (S.free.odd s m).1)) in
-          let g = get_d-below d.gens s 0 1 h in
+          let g = get_or-below d.gens s 0 1 h in
           let z : get_or d.gens s 1 % 2 ≡ 0 = eqb-true _ _ e in
           omega arith
       go s h false e =
           let c = count-once s d.free S.free.once (S.free.all s h e) in
-          let g = get_d-below d.gens s 0 1 h in
+          let g = get_or-below d.gens s 0 1 h in
           let z : get_or d.gens s 1 % 2 ≢ 0 = eqb-false _ _ e in
           omega arith
 

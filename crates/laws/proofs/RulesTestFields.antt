@@ -19,7 +19,7 @@ use Rattle.model.specs.Rules.{CountsAndFields, FreeList}
 use Rattle.model.specs.RulesTest.{implies, fits_field, counts_within, words_within, one_root, counts_and_fields_hold, free_list_holds}
 use Rattle.laws.proofs.Basics.{even-below}
 use Rattle.laws.proofs.RulesOfSim.{is_root-root}
-use Rattle.laws.proofs.Counting.{mem-get_d, mem_index, all-mem, mem-all}
+use Rattle.laws.proofs.Counting.{mem-get_or, mem_index, all-mem, mem-all}
 use Rattle.laws.proofs.Quantifiers.{implies_true, true_implies, which-at, at-which, slots-at, at_slots, live_at, at-live}
 
 -- ---- 1
@@ -108,7 +108,7 @@ unfolding free_list_holds
 free-list-of-test d h = record {
   inside = λ i b.
       ltb-true (get_or d.free i 0) (length d.gens)
-      (all-mem (λ s. ltb s (length d.gens)) d.free (search and_left) (get_or d.free i 0) (mem-get_d d.free i 0 b));
+      (all-mem (λ s. ltb s (length d.gens)) d.free (search and_left) (get_or d.free i 0) (mem-get_or d.free i 0 b));
   once = λ s b.
       eqb-true (count_of (eqb s) d.free) (get_or d.gens s 0 % 2)
       (slots-at d (λ s. eqb (count_of (eqb s) d.free) (get_or d.gens s 0 % 2)) (search (and_left, and_right)) s b);

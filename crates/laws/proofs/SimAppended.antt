@@ -20,7 +20,7 @@ use Rattle.model.specs.Calls.{room_fits, slot_fits, appended}
 use Rattle.model.specs.Tree.{Tree}
 use Rattle.model.specs.Tree as tree
 use Rattle.laws.proofs.Sim.{Sim}
-use Rattle.laws.proofs.Basics.{update_same, update_other, get_d-snoc-other, birth-below, live-even}
+use Rattle.laws.proofs.Basics.{update_same, update_other, get_or-snoc-other, birth-below, live-even}
 use Rattle.laws.proofs.SimEdits.{sim-attach}
 use Rattle.laws.proofs.Stores.{Stores}
 use Rattle.laws.proofs.SimBorn.{sim-born}
@@ -37,7 +37,7 @@ module _ (d : Doc) (t : Tree) (hs : ℕ → ℕ) (S : Sim d t hs) (k : Kind ℕ 
       go : (f : List ℕ) → d.free ≡ f → room_fits (born_from f d k pool names) w (hs p) ≡ room_fits d w (hs p)
       go [] e =
           let lt = birth-below d t hs S p lp in
-          ap (has_room (d.arenas w)) (get_d-snoc-other (d.ranges w) (block 0 0) (block 0 0) x (λ q. omega (arith, S.shape.ranges w)))
+          ap (has_room (d.arenas w)) (get_or-snoc-other (d.ranges w) (block 0 0) (block 0 0) x (λ q. omega (arith, S.shape.ranges w)))
       go (j ∷ l) e = ap (has_room (d.arenas w)) (get_or-set_other (d.ranges w) j x (block 0 0) (block 0 0) other)
         where
           other : x ≢ j

@@ -12,7 +12,7 @@ use lib.ListN.{length, get_or, set, replicate, length-set, length-replicate, get
 use lib.Seq.{get_or-set_same, get_or-set_other, set_out}
 use Rattle.words.specs.Parts.{part}
 use Rattle.words.specs.Lists.{insert_at, without, index_of}
-use Rattle.words.proofs.Parts.{get_d_part, part-put-same, get_d-put-before, get_d-put-after}
+use Rattle.words.proofs.Parts.{get_or-part, part-put-same, get_or-put-before, get_or-put-after}
 use Rattle.words.proofs.Lists.{map-insert_at, map-without}
 use Rattle.blocks.specs.Arena.{Arena, Block, Edit, cap_of, list_of, moved_capacity, unrecorded, has_room, inserted, removed}
 use Rattle.blocks.specs.Rule.{Shaped, Inside, Edited}
@@ -52,16 +52,16 @@ cleared-fits l s n b h i = go (dec_lt i s) (dec_lt i (s + n))
     zeros = length-replicate n 0
 
     go : Dec (i < s) → Dec (i < s + n) → get_or (unrecorded l s n) i 0 < 4294967296
-    go (yes k) m = rw (get_d-put-before l s (replicate n 0) i 0 k b) (h i)
+    go (yes k) m = rw (get_or-put-before l s (replicate n 0) i 0 k b) (h i)
     go (no k) (yes m) =
         let e : i ≡ s + (i - s) = omega arith in
         let q : get_or (unrecorded l s n) i 0 ≡ 0 =
-        ap (λ (j : ℕ). get_or (unrecorded l s n) j 0) e ∙ sym (get_d_part (unrecorded l s n) s n (i - s) 0 (omega arith))
+        ap (λ (j : ℕ). get_or (unrecorded l s n) j 0) e ∙ sym (get_or-part (unrecorded l s n) s n (i - s) 0 (omega arith))
         ∙ ap (λ (k : ℕ). get_or (part s k (unrecorded l s n)) (i - s) 0) (sym zeros)
         ∙ ap (λ (r : List ℕ). get_or r (i - s) 0) (part-put-same l s (replicate n 0) b)
         ∙ get_or-replicate n (i - s) 0 0 (omega arith) in
         omega arith
-    go (no k) (no m) = rw (get_d-put-after l s (replicate n 0) i 0 (omega (arith, zeros)) b) (h i)
+    go (no k) (no m) = rw (get_or-put-after l s (replicate n 0) i 0 (omega (arith, zeros)) b) (h i)
 
 module _ (a : Arena) (b : Block) (sh : Shaped a) (inb : Inside a b) (small : length a.ids ≤ 262144)
     (fits : (i : ℕ) → get_or a.caps i 0 < 4294967296) where

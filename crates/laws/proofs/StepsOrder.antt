@@ -27,10 +27,10 @@ use Rattle.laws.proofs.Compact.{sim-compacted}
 use Rattle.laws.proofs.Matching.{Matches}
 use Rattle.laws.proofs.Guards.{Plain}
 
-get_d_default : (l : List ℕ) (i d e : ℕ) → i < length l → get_or l i d ≡ get_or l i e
-get_d_default [] i d e h = absurd (omega arith)
-get_d_default (x ∷ l) zero d e h = refl
-get_d_default (x ∷ l) (suc i) d e h = get_d_default l i d e (omega arith)
+get_or-default : (l : List ℕ) (i d e : ℕ) → i < length l → get_or l i d ≡ get_or l i e
+get_or-default [] i d e h = absurd (omega arith)
+get_or-default (x ∷ l) zero d e h = refl
+get_or-default (x ∷ l) (suc i) d e h = get_or-default l i d e (omega arith)
 
 -- a word that shows this key, or none
 key-word : (w : ℕ) (k : Option ℕ) → w < 4294967296 → key_of w ≡ k → w ≡ or_else no_key k
@@ -50,7 +50,7 @@ module _ {d : Doc} {t : Tree} {hs : ℕ → ℕ} (S : Sim d t hs) where
             let lt = birth-below d t hs S b lb in
             let i : ℕ = handle_index (hs b) in
             get_or-take (length d.gens) d.order i 0 lt
-            ∙ get_d_default d.order i 0 no_key (omega arith)
+            ∙ get_or-default d.order i 0 no_key (omega arith)
             ∙ key-word (get_or d.order i no_key) (key_in t b) (small i (omega arith)) (S.order c b lb));
         free = λ i lt l. (
             let g : i < length d.gens = subst (λ (n : ℕ). i < n) (length-take-le (length d.gens) d.order fits) lt in
@@ -61,7 +61,7 @@ module _ {d : Doc} {t : Tree} {hs : ℕ → ℕ} (S : Sim d t hs) where
       fits = omega (arith, S.within.slots, S.shape.order)
 
       small : (i : ℕ) → i < length d.order → get_or d.order i no_key < 4294967296
-      small i lt = subst (λ (w : ℕ). w < 4294967296) (get_d_default d.order i 0 no_key lt) (S.order_fits i)
+      small i lt = subst (λ (w : ℕ). w < 4294967296) (get_or-default d.order i 0 no_key lt) (S.order_fits i)
 
   -- a tree whose order is current already
   current-same : d.current ≡ true → set_current t ≡ t

@@ -67,10 +67,10 @@ module _ {N T : Type 0} where
   prefixed-replaceable q (namespace p u) e = refl
   prefixed-replaceable q (instruction s c) e = absurd (false≢true e)
 
-last_of_snoc : (l : List ℕ) (x : ℕ) → last_of (l ++ (x ∷ [])) ≡ x
-last_of_snoc [] x = refl
-last_of_snoc (y ∷ []) x = refl
-last_of_snoc (y ∷ z ∷ l) x = last_of_snoc (z ∷ l) x
+last_of-snoc : (l : List ℕ) (x : ℕ) → last_of (l ++ (x ∷ [])) ≡ x
+last_of-snoc [] x = refl
+last_of-snoc (y ∷ []) x = refl
+last_of-snoc (y ∷ z ∷ l) x = last_of-snoc (z ∷ l) x
 
 element-passed : (k : Kind Name (List ℕ)) → an_element (some k) ≡ 0 → is_element k ≡ true
 element-passed k e = not-false-true (is_element k) (refuse-zero (not (is_element k)) 6 e)
@@ -129,7 +129,7 @@ module _ (d : Doc) (t : Tree) (hs : ℕ → ℕ) (S : Sim d t hs) (W : WF t) whe
       let live₁ : (tree.appended t w e kind).live e ≡ true = update_other t.live n true e (λ q. omega arith) ∙ le in
       subst (λ (h : ℕ). last_of (shown_list (appended d w h k pool names) w h) ≡ next_handle d) at
       (ap last_of (shown-list (appended d w (gs e) k pool names) (tree.appended t w e kind) gs r.0 w e live₁ ∙ ap (map gs) (joined-last t w e kind (λ q. omega arith)) ∙ map-append gs (t.lists w e) (n ∷ []))
-      ∙ last_of_snoc (map gs (t.lists w e)) (gs n)
+      ∙ last_of-snoc (map gs (t.lists w e)) (gs n)
       ∙ update_same hs n (next_handle d))
 
   -- ---- attributes

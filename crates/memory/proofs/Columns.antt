@@ -11,7 +11,7 @@ use lib.ListN.{length, get_or, get_or-eq_default}
 use lib.Dec.{eqb}
 use borrow.Author.Tests.{lt-ltb, eq-eqb, ne_eqb}
 use Rattle.words.specs.Lists.{tabulate}
-use Rattle.words.proofs.Lists.{length-tabulate, get_d_tabulate}
+use Rattle.words.proofs.Lists.{length-tabulate, get_or-tabulate}
 use Rattle.blocks.specs.Arena.{block, list_of}
 use Rattle.records.specs.Handles.{word_of, handle_index}
 use Rattle.slots.specs.Regions.{generation_at, node_at, order_at}
@@ -50,16 +50,16 @@ module _ (p : Pool) (names : List (Option Name)) (lengths : Bool) (d : Document)
 
   module _ (s : ℕ) (b : s < slots_made d) where
     pub generation-in : doc.generation_at (decode_with p names lengths d mem) s ≡ generation_at d.limits.nodes (slots_part d mem) s
-    generation-in = get_d_tabulate (generation_at n w) (slots_made d) s 1 b
+    generation-in = get_or-tabulate (generation_at n w) (slots_made d) s 1 b
 
     pub kind-column : get_or (decode_with p names lengths d mem).kinds s none ≡ kind_loaded (loaded_at d.limits.nodes (slots_part d mem) s)
-    kind-column = get_d_tabulate (λ t. kind_loaded (loaded_at n w t)) (slots_made d) s none b
+    kind-column = get_or-tabulate (λ t. kind_loaded (loaded_at n w t)) (slots_made d) s none b
 
     pub parent-in : parent_in (decode_with p names lengths d mem) s ≡ parent_loaded (loaded_at d.limits.nodes (slots_part d mem) s)
-    parent-in = get_d_tabulate (λ t. parent_loaded (loaded_at n w t)) (slots_made d) s none b
+    parent-in = get_or-tabulate (λ t. parent_loaded (loaded_at n w t)) (slots_made d) s none b
 
     pub range-in : (a : Which) → range_in (decode_with p names lengths d mem) a s ≡ range_loaded a (loaded_at d.limits.nodes (slots_part d mem) s)
-    range-in a = get_d_tabulate (λ t. range_loaded a (loaded_at n w t)) (slots_made d) s (block 0 0) b
+    range-in a = get_or-tabulate (λ t. range_loaded a (loaded_at n w t)) (slots_made d) s (block 0 0) b
 
     pub list-in : (a : Which) → list_in (decode_with p names lengths d mem) a s ≡ list_of (arena_in d a mem) (range_loaded a (loaded_at d.limits.nodes (slots_part d mem) s))
     list-in a = ap (list_of (arena_in d a mem)) (range-in a)
@@ -116,7 +116,7 @@ module _ (p : Pool) (names : List (Option Name)) (lengths : Bool) (d : Document)
           absurd (omega arith)
 
   pub order-in : (s : ℕ) → s < d.limits.nodes → get_or (decode_with p names lengths d mem).order s 0 ≡ order_at d.limits.nodes (slots_part d mem) s
-  order-in s b = get_d_tabulate (order_at n w) n s 0 b
+  order-in s b = get_or-tabulate (order_at n w) n s 0 b
 
   -- ---- a handle
 

@@ -8,7 +8,7 @@ use lib.ListN.{get_or, take, drop}
 use lib.Seq.{get_or-take}
 use borrow.Author.Tests.{lt-ltb, le-ltb}
 use Rattle.words.specs.Parts.{part}
-use Rattle.words.proofs.Parts.{get_d_part, take_part, part-part}
+use Rattle.words.proofs.Parts.{get_or-part, take_part, part-part}
 use Rattle.records.specs.Records.{node_of}
 use Rattle.slots.specs.Regions.{generation_at, record_at, node_at}
 use Rattle.records.specs.declared.NodeRecord.{NodeRecord}
@@ -43,7 +43,7 @@ pub entry_read : (d : Document) (w : Which) (mem : List ℕ) (start at : ℕ) �
     → get_or mem (start + at) 0 ≡ get_or (arena_in d w mem).ids at 0
 entry_read d w mem start at e h =
     ap (λ (a : ℕ). get_or mem (a + at) 0) e
-    ∙ sym (get_d_part mem (arena_at (limits_of d.limits) w) (2 * entries_of d.limits w) at 0 (omega arith))
+    ∙ sym (get_or-part mem (arena_at (limits_of d.limits) w) (2 * entries_of d.limits w) at 0 (omega arith))
     ∙ sym (get_or-take (entries_of d.limits w) (arena_part d w mem) at 0 h)
 
 -- a block of an arena is a part of the memory

@@ -10,7 +10,7 @@ use native.Mathlib.Nat.{min-eq_left}
 use lib.ListN.{length, get_or, get_or-eq_default}
 use lib.Seq.{ext_get_or}
 use Rattle.words.specs.Parts.{part}
-use Rattle.words.proofs.Lists.{length-tabulate, get_d_tabulate}
+use Rattle.words.proofs.Lists.{length-tabulate, get_or-tabulate}
 use Rattle.texts.specs.Pool.{Pool, text_at}
 use Rattle.texts.specs.Words.{text_shown, pool_of, Counted}
 use Rattle.texts.proofs.Places.{shown-empty}
@@ -40,7 +40,7 @@ module _ (d : Document) (mem : List ℕ) where
   name-shown i = go (dec_lt i (min d.counts.names d.limits.names))
     where
       go : Dec (i < min d.counts.names d.limits.names) → name_at (names_in d mem) i ≡ shown i
-      go (yes b) = get_d_tabulate shown (min d.counts.names d.limits.names) i none b
+      go (yes b) = get_or-tabulate shown (min d.counts.names d.limits.names) i none b
       go (no b) =
           get_or-eq_default (names_in d mem) none {n = i} (omega (arith, names-shown))
           ∙ sym (shown-none (name_limits d) (name_counts d) (names_part d mem) i (there-number (name_limits d) (name_counts d) (names_part d mem) i (omega arith)))
@@ -53,7 +53,7 @@ module _ (d : Document) (mem : List ℕ) where
       k = min d.counts.texts d.limits.texts
 
       go : Dec (t < k) → get_or (pool_in d mem).texts t [] ≡ text_shown (text_limits d) (text_counts d) t (texts_part d mem)
-      go (yes b) = get_d_tabulate (λ s. text_shown (text_limits d) (text_counts d) s (texts_part d mem)) k t [] b
+      go (yes b) = get_or-tabulate (λ s. text_shown (text_limits d) (text_counts d) s (texts_part d mem)) k t [] b
       go (no b) =
           get_or-eq_default (pool_in d mem).texts [] {n = t} (omega (arith, length-tabulate (λ s. text_shown (text_limits d) (text_counts d) s (texts_part d mem)) k))
           ∙ sym (shown-empty (text_limits d) (text_counts d) t (texts_part d mem) (omega arith))

@@ -10,7 +10,7 @@ use native.Mathlib.Nat.{add-sub_cancel}
 use lib.ListN.{get_or}
 use lib.Dec.{eqb, ltb}
 use borrow.Author.Tests.{ne_eqb}
-use Rattle.words.proofs.Parts.{get_d_part}
+use Rattle.words.proofs.Parts.{get_or-part}
 use Rattle.blocks.specs.Arena.{block}
 use Rattle.records.specs.Records.{chars_word, kind_word, name_word, first_text, second_text, parent_word, parent_generation, attributes_span, namespaces_span, record_of, is_node, chars_of, parent_of, found_node, node_of}
 use Rattle.slots.specs.Regions.{record_start, generation_at, record_at, node_at}
@@ -98,12 +98,12 @@ module _ (d : Document) (mem : List ℕ) where
 
   pub generation-word : (s : ℕ) → s < d.limits.nodes → get_or mem s 0 ≡ generation_at d.limits.nodes (slots_part d mem) s
   unfolding generation_at
-  generation-word s h = sym (get_d_part mem 0 (15 * n) s 0 (omega arith) ∙ from_start s)
+  generation-word s h = sym (get_or-part mem 0 (15 * n) s 0 (omega arith) ∙ from_start s)
 
   pub record-word : (s k : ℕ) → s < d.limits.nodes → k < 12 → get_or mem (d.limits.nodes * 2 + s * 12 + k) 0 ≡ record_word d mem s k
   unfolding record_word
   record-word s k hs hk =
-      sym (get_d_part w (record_start n s) 12 k 0 hk ∙ get_d_part mem 0 (15 * n) (record_start n s + k) 0 (omega arith) ∙ from_start (record_start n s + k))
+      sym (get_or-part w (record_start n s) 12 k 0 hk ∙ get_or-part mem 0 (15 * n) (record_start n s + k) 0 (omega arith) ∙ from_start (record_start n s + k))
 
   -- ---- the node of a live slot, and its words
 

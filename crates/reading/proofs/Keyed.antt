@@ -8,7 +8,7 @@ use Prim.Native.Nat.{ℕ, ◌<◌}
 use native.Mathlib.Omega.{arith}
 use lib.ListN.{get_or}
 use lib.Dec.{ltb}
-use Rattle.words.proofs.Lists.{get_d_tabulate}
+use Rattle.words.proofs.Lists.{get_or-tabulate}
 use Rattle.records.specs.Handles.{word_of, handle_index}
 use Rattle.slots.specs.Regions as regions
 use Rattle.slots.specs.Regions.{order_at}
@@ -61,7 +61,7 @@ module _ (d : Document) (mem : List ℕ) (h : NodeId) (hi : h.index < 4294967296
       let n = d.limits.nodes in
       let word : get_or (decode d mem).order (handle_index (word_of h)) no_key ≡ order_at d.limits.nodes (slots_part d mem) h.index =
       ap (λ (i : ℕ). get_or D.order i no_key) (handle_index-word_of h hi)
-      ∙ get_d_tabulate (order_at n (slots_part d mem)) n h.index no_key (slot-inside q) in
+      ∙ get_or-tabulate (order_at n (slots_part d mem)) n h.index no_key (slot-inside q) in
       k ∙ sym (rw (sym e ∙ q, word))
 
   pub key-stale : t ≡ false → key none ≡ (step (order-key (word_of h)) (decode d mem)).answer

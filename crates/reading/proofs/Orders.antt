@@ -9,8 +9,8 @@ use lib.ListN.{length, get_or, take}
 use lib.Seq.{ext_get_or, get_or-take, length-take-le}
 use Rattle.words.specs.Parts.{part}
 use Rattle.words.specs.Lists.{tabulate}
-use Rattle.words.proofs.Parts.{length_part, get_d_part}
-use Rattle.words.proofs.Lists.{length-tabulate, get_d_tabulate}
+use Rattle.words.proofs.Parts.{length_part, get_or-part}
+use Rattle.words.proofs.Lists.{length-tabulate, get_or-tabulate}
 use Rattle.slots.specs.Regions.{order_start, order_at}
 use Rattle.layout.specs.declared.Document.{Document}
 use Rattle.layout.specs.Layout.{memory_ok}
@@ -26,7 +26,7 @@ tabulate-take f k n d h =
     ext_get_or d (tabulate f k) (take k (tabulate f n)) (length-tabulate f k ∙ sym size)
     (λ i b.
     let j : i < k = omega (arith, length-tabulate f k) in
-    get_d_tabulate f k i d j ∙ sym (get_or-take k (tabulate f n) i d j ∙ get_d_tabulate f n i d (omega arith)))
+    get_or-tabulate f k i d j ∙ sym (get_or-take k (tabulate f n) i d j ∙ get_or-tabulate f n i d (omega arith)))
 
 module _ (d : Document) (mem : List ℕ) where
   abbrev n : ℕ
@@ -42,10 +42,10 @@ module _ (d : Document) (mem : List ℕ) where
       (λ i b.
       let j : i < k = omega (arith, length-tabulate (order_at n (slots_part d mem)) k) in
       let e : 0 + (n * 14 + i) ≡ n * 14 + i = omega arith in
-      get_d_tabulate (order_at n (slots_part d mem)) k i 0 j
-      ∙ get_d_part mem 0 (15 * n) (n * 14 + i) 0 (omega arith)
+      get_or-tabulate (order_at n (slots_part d mem)) k i 0 j
+      ∙ get_or-part mem 0 (15 * n) (n * 14 + i) 0 (omega arith)
       ∙ ap (λ (m : ℕ). get_or mem m 0) e
-      ∙ sym (get_d_part mem (n * 14) k i 0 j))
+      ∙ sym (get_or-part mem (n * 14) k i 0 j))
 
   module _ (t : Bool) (e : t ≡ memory_ok d (length mem)) where
     pub order-inside : t ≡ true → (l : List ℕ) → l ≡ part (order_start d.limits.nodes) (slots_made d) mem → l ≡ order_shown d mem

@@ -11,7 +11,7 @@ use borrow.Author.Tests.{eq-eqb}
 use Rattle.words.specs.Parts.{part, put}
 use Rattle.words.specs.Pieces.{pieces}
 use Rattle.words.specs.Ends.{lengths_from, lengths_of, ends_from, ends_of, ends_reach}
-use Rattle.words.proofs.Parts.{take_part, drop-part, length-put, take-put-before, part-put-same, part-put-before, part-put-after, get_d-put-before, get_d-put-after, put-nil, put_front, put-put, set-put-after}
+use Rattle.words.proofs.Parts.{take_part, drop-part, length-put, take-put-before, part-put-same, part-put-before, part-put-after, get_or-put-before, get_or-put-after, put-nil, put_front, put-put, set-put-after}
 use Rattle.words.proofs.Joined.{joined-append}
 use Rattle.words.proofs.Reach.{reach-cons}
 use Rattle.texts.specs.Pool.{bytes_of}
@@ -85,8 +85,8 @@ module _ (base : ℕ) (words : List ℕ) (ts : List (List ℕ)) (a : length ts �
   pub laid_table : (i : ℕ) → length ts ≤ i → i < base → get_or (laid base ts words) i 0 ≡ get_or words i 0
   unfolding laid
   laid_table i f g =
-      get_d-put-before tabled base (bytes_of ts) i 0 g (omega (arith, size-tabled))
-      ∙ get_d-put-after words 0 (ends_of ts) i 0 (omega (arith, length-ends 0 ts)) (omega arith)
+      get_or-put-before tabled base (bytes_of ts) i 0 g (omega (arith, size-tabled))
+      ∙ get_or-put-after words 0 (ends_of ts) i 0 (omega (arith, length-ends 0 ts)) (omega arith)
 
   pub laid-between : (s n : ℕ) → length ts ≤ s → s + n ≤ base → part s n (laid base ts words) ≡ part s n words
   unfolding laid

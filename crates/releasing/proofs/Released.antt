@@ -17,14 +17,14 @@ use Rattle.words.specs.Lists.{sum, count_of, tabulate}
 use Rattle.words.specs.Pieces.{pieces}
 use Rattle.words.specs.Ends.{lengths_of, ends_reach}
 use Rattle.words.proofs.Parts.{part-snoc, length_part}
-use Rattle.words.proofs.Lists.{length-tabulate, get_d_tabulate}
+use Rattle.words.proofs.Lists.{length-tabulate, get_or-tabulate}
 use Rattle.words.proofs.Lengths.{pieces-same}
 use Rattle.texts.specs.Pool.{Pool, bytes_of, released, pushed, emptied, reclaimed}
 use Rattle.texts.specs.Rule.{FreeTexts}
 use Rattle.texts.specs.Words.{bytes_at, pool_of, Counted, PushedTo, Markable, marked, kept_text, laid, Reclaimable, ReclaimedTo}
 use Rattle.texts.specs.declared.TextLimits.{TextLimits}
 use Rattle.texts.specs.declared.TextCounts.{TextCounts}
-use Rattle.texts.proofs.Lists.{reverse_snoc, count_of-reverse, get_d-count, marked-at}
+use Rattle.texts.proofs.Lists.{reverse_snoc, count_of-reverse, get_or-count, marked-at}
 use Rattle.texts.proofs.Pool.{first-there}
 use Rattle.texts.proofs.Words.{pool-slots}
 use Rattle.texts.proofs.Written.{part-set-before, part-set-after}
@@ -155,7 +155,7 @@ module _ (limits : TextLimits) (counts : TextCounts) (words : List ℕ) (r : Rec
     where
       inside : (i : ℕ) → i < length stack → get_or stack i 0 < length clear
       inside i k =
-          let m : get_or stack i 0 < counts.slots = r.made (get_or stack i 0) (omega (arith, get_d-count stack i k, on_stack (get_or stack i 0))) in
+          let m : get_or stack i 0 < counts.slots = r.made (get_or stack i 0) (omega (arith, get_or-count stack i k, on_stack (get_or stack i 0))) in
           omega (arith, size-clear)
 
   module _ (set-marks : List ℕ) (e : set-marks ≡ marked (part limits.slots counts.free words) clear) where
@@ -184,7 +184,7 @@ module _ (limits : TextLimits) (counts : TextCounts) (words : List ℕ) (r : Rec
         ext_get_or [] left (emptied (pool_of limits counts words).free texts) (length-tabulate (kept_text set-marks texts) counts.slots ∙ sym n)
         (λ i k.
         let m : i < counts.slots = omega (arith, length-tabulate (kept_text set-marks texts) counts.slots) in
-        get_d_tabulate (kept_text set-marks texts) counts.slots i [] m ∙ sym (text-left i m))
+        get_or-tabulate (kept_text set-marks texts) counts.slots i [] m ∙ sym (text-left i m))
 
     module _ (after : List ℕ) (bytes : ℕ)
         (q : (after ≡ laid (bytes_at limits) (tabulate (kept_text set-marks (pool_of limits counts words).texts) counts.slots) words)

@@ -10,7 +10,7 @@ use lib.Seq.{ext_get_or}
 use Rattle.words.specs.Parts.{part}
 use Rattle.words.specs.Lists.{tabulate}
 use Rattle.words.proofs.Parts.{length_part}
-use Rattle.words.proofs.Lists.{length-tabulate, get_d_tabulate}
+use Rattle.words.proofs.Lists.{length-tabulate, get_or-tabulate}
 use Rattle.words.proofs.Tests.{and_left}
 use Rattle.texts.specs.Pool.{Pool, slots_for, texts_fit}
 use Rattle.texts.specs.Words.{pool_of, Counted, text_shown, counts_fit}
@@ -62,7 +62,7 @@ module _ (d : Document) (mem : List ℕ) (u : Undamaged d mem) where
           rw made (ext_get_or [] (tabulate shown d.counts.texts) (pool_of (text_limits d) (text_counts d) (texts_part d mem)).texts
           (length-tabulate shown d.counts.texts ∙ sym (pool-slots (text_limits d) (text_counts d) (texts_part d mem) counted))
           (λ s h.
-          get_d_tabulate shown d.counts.texts s [] (rw (length-tabulate shown d.counts.texts) at h)
+          get_or-tabulate shown d.counts.texts s [] (rw (length-tabulate shown d.counts.texts) at h)
           ∙ shown-text (text_limits d) (text_counts d) (texts_part d mem) counted s))
 
   -- Full, by the counts

@@ -8,14 +8,14 @@ use Rattle.slots.specs.FreeRule.{generations, free_stack, FreeRule}
 use Rattle.slots.specs.Slots.{up, has_slot, taken_words, CanTake, freed_words}
 use Rattle.slots.proofs.Regions.{length-put_generation}
 use Rattle.slots.proofs.FreeStack.{rule-freed, rule-reused, rule-made, rule-room}
-use Rattle.slots.proofs.Stacks.{get_d-generations, get_d-free_stack, length-generations, length-free_stack, free_stack-next, generations-put_generation, free_stack-put_generation, generations-made, free_stack-put_free, generations-put_free, generations-put_order, free_stack-put_order, taken_words-put, taken-reused, taken-new, freed_words-put}
+use Rattle.slots.proofs.Stacks.{get_or-generations, get_or-free_stack, length-generations, length-free_stack, free_stack-next, generations-put_generation, free_stack-put_generation, generations-made, free_stack-put_free, generations-put_free, generations-put_order, free_stack-put_order, taken_words-put, taken-reused, taken-new, freed_words-put}
 
 module _ (n : ℕ) (w : List ℕ) (made free : ℕ) (long : slots_words n ≤ length w) (mb : made ≤ n) (fb : free ≤ n) (r : FreeRule (generations n w made) (free_stack n w free)) where
   -- an entry of the free stack is a slot made
   pub rule-entry : (i : ℕ) → i < free → free_at n w i < made
   rule-entry i b =
       let q = r.inside i (omega (arith, length-free_stack n w long free fb)) in
-      omega (arith, get_d-free_stack n w free i b, length-generations n w long made mb)
+      omega (arith, get_or-free_stack n w free i b, length-generations n w long made mb)
 
   pub can-take : n ≤ 4294967296 → has_slot n made free ≡ true → ((s : ℕ) → s < made → generation_at n w s < 4294967296) → CanTake n w made free
   can-take narrow h g = record { long = long; narrow = narrow; made-slots = mb; free-slots = fb; slot = h; rule-2 = rule-entry; rule-1 = g }
@@ -23,7 +23,7 @@ module _ (n : ℕ) (w : List ℕ) (made free : ℕ) (long : slots_words n ≤ le
   -- ---- a live slot is freed
   module _ (s : ℕ) (b : s < made) (even : generation_at n w s % 2 ≡ 0) where
     at : get_or (generations n w made) s 0 ≡ generation_at n w s
-    at = get_d-generations n w made s b
+    at = get_or-generations n w made s b
 
     pub freed-room : free < made
     freed-room =
@@ -98,7 +98,7 @@ module _ (n : ℕ) (w : List ℕ) (made free : ℕ) (long : slots_words n ≤ le
     reused-rule =
         let k : top < made = reused-slot in
         rw (reused-generations, reused-stack)
-        (rw (get_d-generations n w made top k) at (rule-reused (generations n w made) (free_stack n w (free - 1)) top (omega (arith, length-generations n w long made mb)) (rw stack at r)))
+        (rw (get_or-generations n w made top k) at (rule-reused (generations n w made) (free_stack n w (free - 1)) top (omega (arith, length-generations n w long made mb)) (rw stack at r)))
 
   -- ---- a slot is made
   module _ (e : free ≡ 0) (b : made < n) where

@@ -4,7 +4,7 @@ use Rattle.std.proofs.Common.{◌≡◌, ℕ, ◌+◌, ◌<◌, ◌≤◌, ◌�
 use native.Mathlib.Decide.{dec_lt}
 use lib.ListN.{length-replicate, get_or-replicate}
 use Rattle.words.specs.Parts.{part, put}
-use Rattle.words.proofs.Parts.{set-put, length-put, get_d_part, part-put-same, part-put-before, part-put-after, get_d-put-before, get_d-put-after}
+use Rattle.words.proofs.Parts.{set-put, length-put, get_or-part, part-put-same, part-put-before, part-put-after, get_or-put-before, get_or-put-after}
 use Rattle.records.specs.declared.NodeRecord.{NodeRecord}
 use Rattle.records.specs.declared.Node.{Node}
 use Rattle.records.specs.declared.Loaded.TheVariants.{Found}
@@ -104,15 +104,15 @@ module _ (n : ℕ) (w : List ℕ) (long : slots_words n ≤ length w) where
 
     pub generation_at-put_record : (t : ℕ) → t < n → generation_at n (put_record n w s r) t ≡ generation_at n w t
     unfolding generation_at put_record
-    generation_at-put_record t h = get_d-put-before w (record_start n s) (record_words r) t 0 (omega arith) (omega arith)
+    generation_at-put_record t h = get_or-put-before w (record_start n s) (record_words r) t 0 (omega arith) (omega arith)
 
     pub free_at-put_record : (i : ℕ) → i < n → free_at n (put_record n w s r) i ≡ free_at n w i
     unfolding free_at put_record
-    free_at-put_record i h = get_d-put-before w (record_start n s) (record_words r) (n + i) 0 (omega arith) (omega arith)
+    free_at-put_record i h = get_or-put-before w (record_start n s) (record_words r) (n + i) 0 (omega arith) (omega arith)
 
     pub order_at-put_record : (t : ℕ) → order_at n (put_record n w s r) t ≡ order_at n w t
     unfolding order_at put_record
-    order_at-put_record t = get_d-put-after w (record_start n s) (record_words r) (order_start n + t) 0 (omega arith) (omega arith)
+    order_at-put_record t = get_or-put-after w (record_start n s) (record_words r) (order_start n + t) 0 (omega arith) (omega arith)
 
   -- ---- after an order word was written
   module _ (s key : ℕ) (b : s < n) where
@@ -148,22 +148,22 @@ module _ (n : ℕ) (w : List ℕ) (long : slots_words n ≤ length w) where
     pub order_at-clear_order : (s : ℕ) → s < made → order_at n (clear_order n w made) s ≡ 4294967295
     unfolding order_at clear_order
     order_at-clear_order s h =
-        sym (get_d_part (put (order_start n) (replicate made 4294967295) w) (order_start n) made s 0 h)
+        sym (get_or-part (put (order_start n) (replicate made 4294967295) w) (order_start n) made s 0 h)
         ∙ ap (λ (k : ℕ). get_or (part (order_start n) k (put (order_start n) (replicate made 4294967295) w)) s 0) (sym cleared)
         ∙ ap (λ (l : List ℕ). get_or l s 0) (part-put-same w (order_start n) (replicate made 4294967295) (omega arith))
         ∙ get_or-replicate made s 4294967295 0 h
 
     pub order_at-clear_order-other : (s : ℕ) → made ≤ s → order_at n (clear_order n w made) s ≡ order_at n w s
     unfolding order_at clear_order
-    order_at-clear_order-other s h = get_d-put-after w (order_start n) (replicate made 4294967295) (order_start n + s) 0 (omega (arith, cleared)) (omega arith)
+    order_at-clear_order-other s h = get_or-put-after w (order_start n) (replicate made 4294967295) (order_start n + s) 0 (omega (arith, cleared)) (omega arith)
 
     pub generation_at-clear_order : (t : ℕ) → t < n → generation_at n (clear_order n w made) t ≡ generation_at n w t
     unfolding generation_at clear_order
-    generation_at-clear_order t h = get_d-put-before w (order_start n) (replicate made 4294967295) t 0 (omega arith) (omega arith)
+    generation_at-clear_order t h = get_or-put-before w (order_start n) (replicate made 4294967295) t 0 (omega arith) (omega arith)
 
     pub free_at-clear_order : (i : ℕ) → i < n → free_at n (clear_order n w made) i ≡ free_at n w i
     unfolding free_at clear_order
-    free_at-clear_order i h = get_d-put-before w (order_start n) (replicate made 4294967295) (n + i) 0 (omega arith) (omega arith)
+    free_at-clear_order i h = get_or-put-before w (order_start n) (replicate made 4294967295) (n + i) 0 (omega arith) (omega arith)
 
     pub record_at-clear_order : (t : ℕ) → t < n → record_at n (clear_order n w made) t ≡ record_at n w t
     unfolding record_at clear_order

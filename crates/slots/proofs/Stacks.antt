@@ -4,21 +4,21 @@ use Rattle.std.proofs.Common.{◌≡◌, ℕ, ◌+◌, ◌-◌, ◌<◌, ◌≤�
 use native.Mathlib.Decide.{ℕ_discrete}
 use Rattle.words.specs.Parts.{part}
 use Rattle.words.specs.Lists.{tabulate}
-use Rattle.words.proofs.Parts.{length_part, get_d_part, part-snoc}
-use Rattle.words.proofs.Lists.{length-tabulate, get_d_tabulate}
+use Rattle.words.proofs.Parts.{length_part, get_or-part, part-snoc}
+use Rattle.words.proofs.Lists.{length-tabulate, get_or-tabulate}
 use Rattle.slots.specs.Regions.{slots_words, generation_at, free_at, put_generation, put_free, put_order, no_position}
 use Rattle.slots.specs.FreeRule.{generations, free_stack}
 use Rattle.slots.specs.Slots.{up, taken, taken_generations, taken_words, freed_words}
 use Rattle.slots.proofs.Regions.{length-put_generation, length-put_free, generation_at-put_generation, generation_at-put_generation-other, free_at-put_generation, free_at-put_free, free_at-put_free-other, generation_at-put_free, length-put_order, generation_at-put_order, free_at-put_order}
 
 module _ (n : ℕ) (w : List ℕ) where
-  pub get_d-generations : (made s : ℕ) → s < made → get_or (generations n w made) s 0 ≡ generation_at n w s
+  pub get_or-generations : (made s : ℕ) → s < made → get_or (generations n w made) s 0 ≡ generation_at n w s
   unfolding generation_at
-  get_d-generations made s b = get_d_part w 0 made s 0 b ∙ ap (λ (i : ℕ). get_or w i 0) (omega arith)
+  get_or-generations made s b = get_or-part w 0 made s 0 b ∙ ap (λ (i : ℕ). get_or w i 0) (omega arith)
 
-  pub get_d-free_stack : (free i : ℕ) → i < free → get_or (free_stack n w free) i 0 ≡ free_at n w i
+  pub get_or-free_stack : (free i : ℕ) → i < free → get_or (free_stack n w free) i 0 ≡ free_at n w i
   unfolding free_at
-  get_d-free_stack free i b = get_d_part w n free i 0 b
+  get_or-free_stack free i b = get_or-part w n free i 0 b
 
   module _ (long : slots_words n ≤ length w) where
     pub length-generations : (made : ℕ) → made ≤ n → length (generations n w made) ≡ made
@@ -33,14 +33,14 @@ module _ (n : ℕ) (w : List ℕ) where
         ext_get_or 0 (generations n w made) (tabulate (generation_at n w) made) (length-generations made b ∙ sym (length-tabulate (generation_at n w) made))
         (λ s k.
         let j : s < made = omega (arith, length-generations made b) in
-        get_d-generations made s j ∙ sym (get_d_tabulate (generation_at n w) made s 0 j))
+        get_or-generations made s j ∙ sym (get_or-tabulate (generation_at n w) made s 0 j))
 
     pub free_stack-tabulate : (free : ℕ) → free ≤ n → free_stack n w free ≡ tabulate (free_at n w) free
     free_stack-tabulate free b =
         ext_get_or 0 (free_stack n w free) (tabulate (free_at n w) free) (length-free_stack free b ∙ sym (length-tabulate (free_at n w) free))
         (λ i k.
         let j : i < free = omega (arith, length-free_stack free b) in
-        get_d-free_stack free i j ∙ sym (get_d_tabulate (free_at n w) free i 0 j))
+        get_or-free_stack free i j ∙ sym (get_or-tabulate (free_at n w) free i 0 j))
 
     -- one slot more, and one entry more
     pub generations-next : (made : ℕ) → made < n → generations n w (made + 1) ≡ generations n w made ++ (generation_at n w made ∷ [])
@@ -60,14 +60,14 @@ module _ (n : ℕ) (v w : List ℕ) (lv : slots_words n ≤ length v) (lw : slot
       ext_get_or 0 (generations n v made) (generations n w made) (length-generations n v lv made b ∙ sym (length-generations n w lw made b))
       (λ s k.
       let j : s < made = omega (arith, length-generations n v lv made b) in
-      get_d-generations n v made s j ∙ h s j ∙ sym (get_d-generations n w made s j))
+      get_or-generations n v made s j ∙ h s j ∙ sym (get_or-generations n w made s j))
 
   pub free_stack-same : (free : ℕ) → free ≤ n → ((i : ℕ) → i < free → free_at n v i ≡ free_at n w i) → free_stack n v free ≡ free_stack n w free
   free_stack-same free b h =
       ext_get_or 0 (free_stack n v free) (free_stack n w free) (length-free_stack n v lv free b ∙ sym (length-free_stack n w lw free b))
       (λ i k.
       let j : i < free = omega (arith, length-free_stack n v lv free b) in
-      get_d-free_stack n v free i j ∙ h i j ∙ sym (get_d-free_stack n w free i j))
+      get_or-free_stack n v free i j ∙ h i j ∙ sym (get_or-free_stack n w free i j))
 
 module _ (n : ℕ) (w : List ℕ) (long : slots_words n ≤ length w) where
   -- ---- after a generation was written
@@ -82,7 +82,7 @@ module _ (n : ℕ) (w : List ℕ) (long : slots_words n ≤ length w) where
         (length-generations n (put_generation n w s g) written made m ∙ sym (length-set (generations n w made) s g ∙ lw))
         (λ t h.
         let j : t < made = omega (arith, length-generations n (put_generation n w s g) written made m) in
-        get_d-generations n (put_generation n w s g) made t j ∙ at t j (ℕ_discrete t s))
+        get_or-generations n (put_generation n w s g) made t j ∙ at t j (ℕ_discrete t s))
       where
         at : (t : ℕ) → t < made → Dec (t ≡ s) → generation_at n (put_generation n w s g) t ≡ get_or (set (generations n w made) s g) t 0
         at t j (yes e) =
@@ -90,7 +90,7 @@ module _ (n : ℕ) (w : List ℕ) (long : slots_words n ≤ length w) where
             ∙ sym (ap (λ (i : ℕ). get_or (set (generations n w made) s g) i 0) e ∙ get_or-set_same (generations n w made) s g 0 (omega (arith, length-generations n w long made m)))
         at t j (no ne) =
             generation_at-put_generation-other n w long s g b t ne
-            ∙ sym (get_or-set_other (generations n w made) s t g 0 ne ∙ get_d-generations n w made t j)
+            ∙ sym (get_or-set_other (generations n w made) s t g 0 ne ∙ get_or-generations n w made t j)
 
     pub free_stack-put_generation : (free : ℕ) → free ≤ n → free_stack n (put_generation n w s g) free ≡ free_stack n w free
     free_stack-put_generation free k = free_stack-same n (put_generation n w s g) w written long free k (λ i h. free_at-put_generation n w long s g b i)

@@ -15,7 +15,7 @@ use Rattle.words.specs.Parts.{part}
 use Rattle.words.specs.Lists.{index_of}
 use Rattle.words.proofs.Tests.{and_left}
 use Rattle.words.proofs.Lists.{length-tabulate, index_of-le}
-use Rattle.words.proofs.Parts.{length_part, get_d_part, lent}
+use Rattle.words.proofs.Parts.{length_part, get_or-part, lent}
 use Rattle.memory.proofs.Cuts.{block-lent}
 use Rattle.showing.proofs.Bounded.{shown-inside}
 use Rattle.blocks.specs.Arena.{Block, list_of}
@@ -77,7 +77,7 @@ module _ (d : Document) (mem : List ℕ) (b : Block) (ok : memory_ok d (length m
   shown-length = length_part (arena_in d children mem).ids b.start b.len inside
 
   pub shown-entry : (k : ℕ) → k < b.len → get_or shown k 0 ≡ get_or (arena_in d children mem).ids (b.start + k) 0
-  shown-entry k h = get_d_part (arena_in d children mem).ids b.start b.len k 0 h
+  shown-entry k h = get_or-part (arena_in d children mem).ids b.start b.len k 0 h
 
   pub hint-right : (k x w : ℕ) → k < b.len → w ≡ get_or (arena_in d children mem).ids (b.start + k) 0 → w ≡ x → k ≡ hinted_index shown x k
   unfolding hinted_index

@@ -13,8 +13,8 @@ use lib.Seq.{get_or-drop}
 use lib.Dec.{eqb, leb}
 use borrow.Author.Tests.{lt-ltb, le-ltb, ltb-true, le-leb, eq-eqb, ne_eqb, eqb-true}
 use Rattle.words.specs.Lists.{all_below}
-use Rattle.words.proofs.Parts.{get_d_part}
-use Rattle.words.proofs.Lists.{get_d_tabulate, all_below-same}
+use Rattle.words.proofs.Parts.{get_or-part}
+use Rattle.words.proofs.Lists.{get_or-tabulate, all_below-same}
 use Rattle.words.proofs.Tests.{and_left, and_right}
 use Rattle.records.specs.Records.{is_node}
 use Rattle.slots.specs.Regions.{generation_at, record_at, node_at}
@@ -68,7 +68,7 @@ module _ (d : Document) (w : Which) (mem : List ℕ) (start limit used : ℕ)
   capacity-word i h =
       let e : start + limit + i ≡ arena_at (limits_of d.limits) w + (entries_of d.limits w + i) = omega arith in
       ap (λ (j : ℕ). get_or mem j 0) e
-      ∙ sym (get_d_part mem (arena_at (limits_of d.limits) w) (2 * entries_of d.limits w) (entries_of d.limits w + i) 0 (omega arith))
+      ∙ sym (get_or-part mem (arena_at (limits_of d.limits) w) (2 * entries_of d.limits w) (entries_of d.limits w + i) 0 (omega arith))
       ∙ sym (get_or-drop (entries_of d.limits w) (arena_part d w mem) i 0)
 
   capacities-are : all_below (fits_at mem (start + limit)) used ≡ capacities_fit (decode_nodes d mem) w
@@ -176,7 +176,7 @@ module _ (d : Document) (mem : List ℕ) where
 -- ---- the words of the slots
 
 generation-column : (d : Document) (mem : List ℕ) (i : ℕ) → i < slots_made d → get_or (decode_nodes d mem).gens i 0 ≡ generation_at d.limits.nodes (slots_part d mem) i
-generation-column d mem i h = get_d_tabulate (generation_at d.limits.nodes (slots_part d mem)) (slots_made d) i 0 h
+generation-column d mem i h = get_or-tabulate (generation_at d.limits.nodes (slots_part d mem)) (slots_made d) i 0 h
 
 module _ (d : Document) (mem : List ℕ) where
   abbrev n : ℕ

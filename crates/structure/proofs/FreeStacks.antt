@@ -10,7 +10,7 @@ use lib.ListN.{length, get_or}
 use lib.Dec.{eqb, ltb}
 use Rattle.words.specs.Lists.{count_of, all, all_below, tabulate}
 use Rattle.words.proofs.Parts.{part_none}
-use Rattle.words.proofs.Lists.{count_of-append, length-tabulate, get_d_tabulate, all_below-same}
+use Rattle.words.proofs.Lists.{count_of-append, length-tabulate, get_or-tabulate, all_below-same}
 use Rattle.slots.specs.Regions.{slots_words, generation_at, free_at}
 use Rattle.slots.specs.FreeRule.{generations, free_stack, are_slots, free_rule}
 use Rattle.slots.proofs.Stacks.{generations-next, free_stack-next}
@@ -65,7 +65,7 @@ module _ (n : ℕ) (w : List ℕ) (long : slots_words n ≤ length w) where
 slots-all : (made : ℕ) (f : ℕ → ℕ) (k : ℕ) → are_slots made (tabulate f k) ≡ all (λ s. ltb s made) (reverse (tabulate f k))
 slots-all made f k =
     ap (all_below (λ i. ltb (get_or (tabulate f k) i 0) made)) (length-tabulate f k)
-    ∙ all_below-same (λ i. ltb (get_or (tabulate f k) i 0) made) (λ i. ltb (f i) made) k (λ i b. ap (λ (x : ℕ). ltb x made) (get_d_tabulate f k i 0 b))
+    ∙ all_below-same (λ i. ltb (get_or (tabulate f k) i 0) made) (λ i. ltb (f i) made) k (λ i b. ap (λ (x : ℕ). ltb x made) (get_or-tabulate f k i 0 b))
     ∙ sym (all-tabulate (λ s. ltb s made) f k)
     ∙ sym (all-reverse (λ s. ltb s made) (tabulate f k))
 

@@ -11,7 +11,7 @@ use lib.ListN.{length, get_or}
 use lib.Dec.{eqb, leb}
 use Rattle.words.specs.Parts.{part}
 use Rattle.words.specs.Lists.{all, count_of}
-use Rattle.words.proofs.Parts.{length_part, get_d_part, part_none, part-snoc}
+use Rattle.words.proofs.Parts.{length_part, get_or-part, part_none, part-snoc}
 use Rattle.words.proofs.Lists.{count_of-le, all_below-at, count_of-snoc}
 use Rattle.words.proofs.Tests.{and_left, and_right, and_both}
 use Rattle.blocks.specs.Arena.{list_of}
@@ -46,7 +46,7 @@ entry-resolves D ids start len k word h f b e =
     let n = length_part ids start len f in
     let q : entry_holds D children 0 (get_or (part start len ids) k 0) ≡ true =
     all_below-at (λ i. entry_holds D children 0 (get_or (part start len ids) i 0)) (length (part start len ids)) (all_below-all (entry_holds D children 0) (part start len ids) 0 ∙ h) k (omega arith) in
-    let w : get_or (part start len ids) k 0 ≡ word = get_d_part ids start len k 0 b ∙ sym e in
+    let w : get_or (part start len ids) k 0 ≡ word = get_or-part ids start len k 0 b ∙ sym e in
     let r : entry_holds D children 0 word ≡ true = rw w at q in
     search (and_left)
 

@@ -45,10 +45,10 @@ count_of-reverse p [] = refl
 count_of-reverse p (x ∷ l) = ap (count_of p) (reverse-cons x l) ∙ omega (arith, count_of-append p (reverse l) (x ∷ []), count_of-reverse p l)
 
 -- an entry stands as often as it is met
-pub get_d-count : (l : List ℕ) (i : ℕ) → i < length l → 0 < count_of (eqb (get_or l i 0)) l
-get_d-count [] i h = absurd (omega arith)
-get_d-count (x ∷ l) zero h = omega (arith, one-here x x refl)
-get_d-count (x ∷ l) (suc i) h = omega (arith, get_d-count l i (omega arith))
+pub get_or-count : (l : List ℕ) (i : ℕ) → i < length l → 0 < count_of (eqb (get_or l i 0)) l
+get_or-count [] i h = absurd (omega arith)
+get_or-count (x ∷ l) zero h = omega (arith, one-here x x refl)
+get_or-count (x ∷ l) (suc i) h = omega (arith, get_or-count l i (omega arith))
 
 -- ---- marks
 

@@ -45,8 +45,8 @@ first-there s l =
     let q : cond {A = ℕ} (eqb s s) 1 0 ≡ 1 = rw (eq-eqb s s refl) in
     omega arith
 
-get_d-snoc-other : (l : List (List ℕ)) (t : List ℕ) (s : ℕ) → (s ≡ length l → ⊥) → get_or (l ++ (t ∷ [])) s [] ≡ get_or l s []
-get_d-snoc-other l t s h = go (dec_lt s (length l))
+get_or-snoc-other : (l : List (List ℕ)) (t : List ℕ) (s : ℕ) → (s ≡ length l → ⊥) → get_or (l ++ (t ∷ [])) s [] ≡ get_or l s []
+get_or-snoc-other l t s h = go (dec_lt s (length l))
   where
     go : Dec (s < length l) → get_or (l ++ (t ∷ [])) s [] ≡ get_or l s []
     go (yes k) = get_or-append l (t ∷ []) [] s k
@@ -72,7 +72,7 @@ stored_other p [] s h = refl
 stored_other p (b ∷ t) s h = go p.free h
   where
     go : (l : List ℕ) → (some (next_slot_from l p) ≡ some s → ⊥) → text_at (stored_from l p (b ∷ t)) (some s) ≡ text_at p (some s)
-    go [] k = get_d-snoc-other p.texts (b ∷ t) s (λ e. k (ap some (sym e)))
+    go [] k = get_or-snoc-other p.texts (b ∷ t) s (λ e. k (ap some (sym e)))
     go (x ∷ l) k = get_or-set_other p.texts x s (b ∷ t) [] (λ e. k (ap some (sym e)))
 
 -- the slot taken is a free one, or new

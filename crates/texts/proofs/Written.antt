@@ -10,7 +10,7 @@ use lib.Seq.{take_at, take-take, take-set-le, drop-set-lt, length-take-le}
 use Rattle.words.specs.Parts.{part, put}
 use Rattle.words.specs.Lists.{sum}
 use Rattle.words.specs.Pieces.{pieces}
-use Rattle.words.proofs.Parts.{drop-take, length_part, length-put, get_d_part, get_d-put-before, take-put-before, part-put-same, part-put-before, part-put-after, put_same}
+use Rattle.words.proofs.Parts.{drop-take, length_part, length-put, get_or-part, get_or-put-before, take-put-before, part-put-same, part-put-before, part-put-after, put_same}
 use Rattle.words.proofs.Lengths.{sum-split, pieces-set}
 use Rattle.words.specs.Ends.{start_of, length_of, lengths_of, ends_reach, moved_end}
 use Rattle.words.proofs.Reach.{ends_above, lengths-moved, reach-moved, map_same}
@@ -84,7 +84,7 @@ module _ (limits : TextLimits) (counts : TextCounts) (words : List ℕ) (h : Cou
       where
         same : (i : ℕ) → i < counts.slots - slot → get_or (bytes_moved limits counts words slot len) (slot + i) 0 ≡ get_or words (slot + i) 0
         same i b =
-            get_d-put-before words (start_at limits words slot + len) (part (start_at limits words slot + length_of words slot) behind words) (slot + i) 0
+            get_or-put-before words (start_at limits words slot + len) (part (start_at limits words slot + length_of words slot) behind words) (slot + i) 0
             (omega (arith, h.slots)) (omega (arith, h.size, ends-here))
 
   -- a text given the room that it had leaves all words
@@ -100,7 +100,7 @@ module _ (limits : TextLimits) (counts : TextCounts) (words : List ℕ) (h : Cou
       let size : length (part slot n words) ≡ n = length_part words slot n w in
       let q : map (moved_end old len) (part slot n words) ≡ part slot n words =
       map_same (moved_end old len) (part slot n words)
-      (λ i b. omega (arith, get_d_part words slot n i 0 (omega arith), (end-behind i (omega arith)).0)) in
+      (λ i b. omega (arith, get_or-part words slot n i 0 (omega arith), (end-behind i (omega arith)).0)) in
       ap (λ (l : List ℕ). ends_moved l slot n old len) p ∙ ap (λ (vs : List ℕ). put slot vs words) q ∙ put_same words slot n w
 
 -- ---- a slot's text replaced

@@ -9,7 +9,7 @@ use native.Mathlib.Numerals.{add-one}
 use lib.ListN.{length, get_or, set, drop, length-drop, length-reverse}
 use lib.Seq.{drop-length, drop-cons}
 use Rattle.words.specs.Parts.{part, put}
-use Rattle.words.proofs.Parts.{length_part, get_d_part, part_none, part-snoc, set-put-after, put-nil}
+use Rattle.words.proofs.Parts.{length_part, get_or-part, part_none, part-snoc, set-put-after, put-nil}
 use Rattle.blocks.specs.Arena.{Block, list_of}
 use Rattle.records.specs.Handles.{handle_index}
 use Rattle.records.specs.declared.Range.{Range}
@@ -26,10 +26,10 @@ use Rattle.walks.proofs.Orders.{length-put_keys, decode-put_keys, keys_none, key
 
 -- ---- lists
 
-pub mem-get_d : (l : List ℕ) (i a : ℕ) → i < length l → Memᴰ (get_or l i a) l
-mem-get_d [] i a h = absurd (omega arith)
-mem-get_d (x ∷ l) zero a h = Memᴰ.head refl
-mem-get_d (x ∷ l) (suc i) a h = Memᴰ.tail (mem-get_d l i a (omega arith))
+pub mem-get_or : (l : List ℕ) (i a : ℕ) → i < length l → Memᴰ (get_or l i a) l
+mem-get_or [] i a h = absurd (omega arith)
+mem-get_or (x ∷ l) zero a h = Memᴰ.head refl
+mem-get_or (x ∷ l) (suc i) a h = Memᴰ.tail (mem-get_or l i a (omega arith))
 
 -- entries pushed from the last on
 pub pushed_none : (s e : List ℕ) (p : ℕ) → s ≡ put p (reverse (drop (length e) e)) s
@@ -111,8 +111,8 @@ module _ (d : Document) (mem : List ℕ) (ok : memory_ok d (length mem) ≡ true
       entry_listed s l g =
           l.slots word
           (subst (λ (x : List ℕ). Memᴰ word x) (sym g)
-          (subst (λ (x : ℕ). Memᴰ x (part start len (arena_in d w mem).ids)) (sym (listed ∙ sym (get_d_part (arena_in d w mem).ids start len k 0 h)))
-          (mem-get_d (part start len (arena_in d w mem).ids) k 0 (omega (arith, length_part (arena_in d w mem).ids start len (omega (arith, length_ids d mem ok w)))))))
+          (subst (λ (x : ℕ). Memᴰ x (part start len (arena_in d w mem).ids)) (sym (listed ∙ sym (get_or-part (arena_in d w mem).ids start len k 0 h)))
+          (mem-get_or (part start len (arena_in d w mem).ids) k 0 (omega (arith, length_part (arena_in d w mem).ids start len (omega (arith, length_ids d mem ok w)))))))
 
       pub keys-next : (mem'' : List ℕ) → mem'' ≡ put_keys d mem' (key + k) (word ∷ []) → mem'' ≡ put_keys d mem key (part (first + start) (k + 1) mem)
       keys-next mem'' g =

@@ -9,7 +9,7 @@ use lib.ListN.{length, get_or, set, length-set}
 use borrow.Rule.Slice.PartMut.{set_mid_at}
 use Rattle.words.specs.Parts.{part, put}
 use Rattle.words.specs.Lists.{tabulate}
-use Rattle.words.proofs.Parts.{length_part, part_none, part-snoc, get_d_part, part-part, length-put, put_back, part-put-same, part-put-before, part-put-after, get_d-put-before, put-put, put_same}
+use Rattle.words.proofs.Parts.{length_part, part_none, part-snoc, get_or-part, part-part, length-put, put_back, part-put-same, part-put-before, part-put-after, get_or-put-before, put-put, put_same}
 use Rattle.words.proofs.Lists.{tabulate-same}
 use Rattle.records.specs.Handles.{handle_index}
 use Rattle.records.specs.Records.{read_record}
@@ -67,7 +67,7 @@ module _ (d : Document) (mem : List ℕ) (ok : memory_ok d (length mem) ≡ true
   order-words =
       tabulate-same (order_at n (slots_part d mem)) (λ s. get_or mem (n * 14 + s) 0) n
       (λ s h. let e : 0 + (n * 14 + s) ≡ n * 14 + s = omega arith in
-      get_d_part mem 0 (15 * n) (n * 14 + s) 0 (omega arith) ∙ ap (λ (k : ℕ). get_or mem k 0) e)
+      get_or-part mem 0 (15 * n) (n * 14 + s) 0 (omega arith) ∙ ap (λ (k : ℕ). get_or mem k 0) e)
       ∙ tabulate-part mem (n * 14) n (let z = long in omega arith)
 
   pub length-order : length (decode d mem).order ≡ d.limits.nodes
@@ -88,9 +88,9 @@ module _ (d : Document) (mem : List ℕ) (ok : memory_ok d (length mem) ≡ true
     word_kept : (i : ℕ) → i < n * 14 → get_or (slots_part d (put_orders d o mem)) i 0 ≡ get_or (slots_part d mem) i 0
     unfolding put_orders
     word_kept i h =
-        get_d_part (put (n * 14) o mem) 0 (15 * n) i 0 (omega arith)
-        ∙ get_d-put-before mem (n * 14) o (0 + i) 0 (omega arith) (let z = long in omega arith)
-        ∙ sym (get_d_part mem 0 (15 * n) i 0 (omega arith))
+        get_or-part (put (n * 14) o mem) 0 (15 * n) i 0 (omega arith)
+        ∙ get_or-put-before mem (n * 14) o (0 + i) 0 (omega arith) (let z = long in omega arith)
+        ∙ sym (get_or-part mem 0 (15 * n) i 0 (omega arith))
 
     record-kept : (s : ℕ) → s < n → record_at n (slots_part d (put_orders d o mem)) s ≡ record_at n (slots_part d mem) s
     unfolding put_orders record_at
@@ -123,7 +123,7 @@ module _ (d : Document) (mem : List ℕ) (ok : memory_ok d (length mem) ≡ true
     order-there =
         tabulate-same (order_at n (slots_part d (put_orders d o mem))) (λ s. get_or (put_orders d o mem) (n * 14 + s) 0) n
         (λ s h. let e : 0 + (n * 14 + s) ≡ n * 14 + s = omega arith in
-        get_d_part (put_orders d o mem) 0 (15 * n) (n * 14 + s) 0 (omega arith) ∙ ap (λ (k : ℕ). get_or (put_orders d o mem) k 0) e)
+        get_or-part (put_orders d o mem) 0 (15 * n) (n * 14 + s) 0 (omega arith) ∙ ap (λ (k : ℕ). get_or (put_orders d o mem) k 0) e)
         ∙ tabulate-part (put_orders d o mem) (n * 14) n (omega (arith, long, length-put_orders))
         ∙ orders-there
 

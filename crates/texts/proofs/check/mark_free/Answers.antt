@@ -9,7 +9,7 @@ use lib.ListN.{length, get_or, set, length-set}
 use lib.Dec.{eqb}
 use Rattle.words.specs.Parts.{part}
 use Rattle.words.specs.Lists.{count_of}
-use Rattle.words.proofs.Parts.{part_none, part-snoc, length_part, get_d_part}
+use Rattle.words.proofs.Parts.{part_none, part-snoc, length_part, get_or-part}
 use Rattle.words.proofs.Lists.{count_of-le}
 use Rattle.texts.specs.Words.{Markable, marked}
 use Rattle.texts.proofs.Lists.{length_marked, marked-at, marked-snoc}
@@ -18,7 +18,7 @@ use Rattle.texts.proofs.check.mark_free.Goals as goal
 module _ (words marks₀ marks : List ℕ) (base n k : ℕ) (h : k < n) (f : base + n ≤ length words) (m : Markable (part base n words) marks₀) (inv : marks ≡ marked (part base k words) marks₀) where
   here : get_or words (base + k) 0 < length marks₀
   here =
-      let q : get_or (part base n words) k 0 ≡ get_or words (base + k) 0 = get_d_part words base n k 0 h in
+      let q : get_or (part base n words) k 0 ≡ get_or words (base + k) 0 = get_or-part words base n k 0 h in
       omega (arith, m.inside k (omega (arith, length_part words base n f)))
 
   sized : length marks ≡ length marks₀

@@ -7,7 +7,7 @@ use native.Mathlib.Numerals.{add-one}
 use native.Mathlib.Omega.{arith}
 use lib.ListN.{length, get_or, set, length-map, length-set}
 use Rattle.words.specs.Parts.{part, put}
-use Rattle.words.proofs.Parts.{part_none, part-snoc, length_part, put-nil, get_d-put-after, set-put-after}
+use Rattle.words.proofs.Parts.{part_none, part-snoc, length_part, put-nil, get_or-put-after, set-put-after}
 use Rattle.words.proofs.Lists.{map-append}
 use Rattle.words.specs.Ends.{moved_end}
 use Rattle.texts.specs.Words.{Movable, ends_moved}
@@ -22,7 +22,7 @@ module _ (words₀ words : List ℕ) (slot n old len k : ℕ) (p : Movable words
   here : get_or words (slot + k) 0 ≡ get_or words₀ (slot + k) 0
   here =
       ap (λ (l : List ℕ). get_or l (slot + k) 0) inv
-      ∙ get_d-put-after words₀ slot (map (moved_end old len) (part slot k words₀)) (slot + k) 0 (omega (arith, size)) (omega (arith, p.inside))
+      ∙ get_or-put-after words₀ slot (map (moved_end old len) (part slot k words₀)) (slot + k) 0 (omega (arith, size)) (omega (arith, p.inside))
 
   fits : (old ≤ get_or words (slot + k) 0) × (get_or words (slot + k) 0 - old + len < 18446744073709551616)
   fits = (omega (arith, here, p.low k h), omega (arith, here, p.small k h))
