@@ -22,7 +22,7 @@ pub fn patch_namespaces(words: &mut NodeRecord, range: Span)
     words.namespaces = range;
 }
 
-// The record is lent to the step above and comes back: whoever calls these needs no walk.
+// The record is lent to the step above and comes back.
 pub fn with_children(words: NodeRecord, range: Span) -> NodeRecord
     ensures { result ≡ with_children words range }
 {

@@ -11,7 +11,8 @@ position-at-requires c =
     omega (arith, held_fits _ _ _ _ _ pre, pre.twice)
 
 pub returns-then-len-at : goal.returns-then-len-at
-returns-then-len-at c = record { by_index = (removes-absent _ _ _ _ c.requires _ _ c.position-at.ensures c.if-len-at.true).0; by_index_2 = (removes-absent _ _ _ _ c.requires _ _ c.position-at.ensures c.if-len-at.true).1 }
+returns-then-len-at c = let q = removes-absent _ _ _ _ c.requires _ _ c.position-at.ensures c.if-len-at.true in
+    record { by_index = q.0; by_index_2 = q.1 }
 
 pub shrunk-cap-requires : goal.shrunk-cap-requires
 shrunk-cap-requires c =
@@ -40,9 +41,6 @@ bounds-arena-limit c =
 
 pub returns : goal.returns
 returns c =
-    record {
-      by_index = (removes-there _ _ _ _ c.requires _ _ _ _ c.position-at.ensures c.if-len-at.false c.shrunk-cap.ensures
-          (stored-record _ _ _ _ c.remove_in_place.ensures)).0;
-      by_index_2 = (removes-there _ _ _ _ c.requires _ _ _ _ c.position-at.ensures c.if-len-at.false c.shrunk-cap.ensures
-          (stored-record _ _ _ _ c.remove_in_place.ensures)).1;
-    }
+    let q = removes-there _ _ _ _ c.requires _ _ _ _ c.position-at.ensures c.if-len-at.false c.shrunk-cap.ensures
+    (stored-record _ _ _ _ c.remove_in_place.ensures) in
+    record { by_index = q.0; by_index_2 = q.1 }

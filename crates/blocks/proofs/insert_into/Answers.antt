@@ -11,7 +11,8 @@ entries_for-more-requires c =
     (held_fits _ _ _ _ _ pre, pre.twice)
 
 pub returns-then-limit-used : goal.returns-then-limit-used
-returns-then-limit-used c = record { value = (inserts-full _ _ _ _ _ c.requires _ _ _ (c.entries_for-more.ensures _) c.if-limit-used.true).0; arena_after = (inserts-full _ _ _ _ _ c.requires _ _ _ (c.entries_for-more.ensures _) c.if-limit-used.true).1 }
+returns-then-limit-used c = let q = inserts-full _ _ _ _ _ c.requires _ _ _ (c.entries_for-more.ensures _) c.if-limit-used.true in
+    record { value = q.0; arena_after = q.1 }
 
 pub insert_in_place-requires : goal.insert_in_place-requires
 insert_in_place-requires c =
@@ -25,7 +26,8 @@ overflow_add-result c =
 
 pub returns-then-more-eq0 : goal.returns-then-more-eq0
 returns-then-more-eq0 c =
-    record { value = (inserts-in-place _ _ _ _ _ c.requires _ _ _ (c.entries_for-more.ensures _) c.if-limit-used.false _ c.least-index.ensures c.if-more-eq0.true _ c.insert_in_place.ensures).0; arena_after = (inserts-in-place _ _ _ _ _ c.requires _ _ _ (c.entries_for-more.ensures _) c.if-limit-used.false _ c.least-index.ensures c.if-more-eq0.true _ c.insert_in_place.ensures).1 }
+    let q = inserts-in-place _ _ _ _ _ c.requires _ _ _ (c.entries_for-more.ensures _) c.if-limit-used.false _ c.least-index.ensures c.if-more-eq0.true _ c.insert_in_place.ensures in
+    record { value = q.0; arena_after = q.1 }
 
 pub move_block_with-requires : goal.move_block_with-requires
 move_block_with-requires c =
@@ -46,4 +48,5 @@ overflow_add-result-2 c =
 
 pub returns : goal.returns
 returns c =
-    record { value = (inserts-moved _ _ _ _ _ c.requires _ _ _ (c.entries_for-more.ensures _) c.if-limit-used.false _ c.least-index.ensures c.if-more-eq0.false _ c.move_block_with.ensures).0; arena_after = (inserts-moved _ _ _ _ _ c.requires _ _ _ (c.entries_for-more.ensures _) c.if-limit-used.false _ c.least-index.ensures c.if-more-eq0.false _ c.move_block_with.ensures).1 }
+    let q = inserts-moved _ _ _ _ _ c.requires _ _ _ (c.entries_for-more.ensures _) c.if-limit-used.false _ c.least-index.ensures c.if-more-eq0.false _ c.move_block_with.ensures in
+    record { value = q.0; arena_after = q.1 }

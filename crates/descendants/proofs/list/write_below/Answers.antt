@@ -15,9 +15,11 @@ write_live-requires c =
 pub returns-then-resolves : goal.returns-then-resolves
 returns-then-resolves c =
     let a = c.args in
-    record { value = (same-written (decode a.d a.mem.now) (word_of a.id) _ c.word_of.ensures _ a.out.now _ (c.write_live.ensures.value, c.write_live.ensures.out_after)).0; out_after = (same-written (decode a.d a.mem.now) (word_of a.id) _ c.word_of.ensures _ a.out.now _ (c.write_live.ensures.value, c.write_live.ensures.out_after)).1 }
+    let q = same-written (decode a.d a.mem.now) (word_of a.id) _ c.word_of.ensures _ a.out.now _ (c.write_live.ensures.value, c.write_live.ensures.out_after) in
+    record { value = q.0; out_after = q.1 }
 
 pub returns : goal.returns
 returns c =
     let a = c.args in
-    record { value = (stale-written (decode a.d a.mem.now) (word_of a.id) _ c.resolves.ensures c.if-resolves.false a.out.now).0; out_after = (stale-written (decode a.d a.mem.now) (word_of a.id) _ c.resolves.ensures c.if-resolves.false a.out.now).1 }
+    let q = stale-written (decode a.d a.mem.now) (word_of a.id) _ c.resolves.ensures c.if-resolves.false a.out.now in
+    record { value = q.0; out_after = q.1 }

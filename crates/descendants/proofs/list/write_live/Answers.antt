@@ -32,7 +32,8 @@ pub returns-in-End : goal.returns-in-End
 returns-in-End c =
     let a = c.args in
     let w = c.loop-count in
-    record { value = (listing-ends (decode a.d a.mem.now) (walked (decode a.d a.mem.now) a.zone) a.out.now w.invariant.2 (omega arith) _ c.successor.ensures c.in-End.is).0; out_after = (listing-ends (decode a.d a.mem.now) (walked (decode a.d a.mem.now) a.zone) a.out.now w.invariant.2 (omega arith) _ c.successor.ensures c.in-End.is).1 }
+    let q = listing-ends (decode a.d a.mem.now) (walked (decode a.d a.mem.now) a.zone) a.out.now w.invariant.2 (omega arith) _ c.successor.ensures c.in-End.is in
+    record { value = q.0; out_after = q.1 }
 
 pub offset_bounds-out-count : goal.offset_bounds-out-count
 offset_bounds-out-count c =
@@ -52,4 +53,5 @@ pub returns : goal.returns
 returns c =
     let a = c.args in
     let w = c.loop-count in
-    record { value = (listing_full (decode a.d a.mem.now) (walked (decode a.d a.mem.now) a.zone) a.out.now w.invariant.2 (omega arith)).0; out_after = (listing_full (decode a.d a.mem.now) (walked (decode a.d a.mem.now) a.zone) a.out.now w.invariant.2 (omega arith)).1 }
+    let q = listing_full (decode a.d a.mem.now) (walked (decode a.d a.mem.now) a.zone) a.out.now w.invariant.2 (omega arith) in
+    record { value = q.0; out_after = q.1 }

@@ -7,15 +7,12 @@ use Rattle.encoding.proofs.answer.give_found.Goals as goal
 
 pub returns-in-Found : goal.returns-in-Found
 returns-in-Found c =
-    record {
-      value = (given_both c.args.document.now (found_record c.args.answer) c.args.found.now (found_words c.args.answer) _ _ _ _
-          (ap found_record c.in-Found.is) (ap found_words c.in-Found.is) c.put_record.ensures
-          (one_word c.args.found.now _ _ c.truth_word.ensures c.requires.1)).0;
-      document_after = (given_both c.args.document.now (found_record c.args.answer) c.args.found.now (found_words c.args.answer) _ _ _ _
-          (ap found_record c.in-Found.is) (ap found_words c.in-Found.is) c.put_record.ensures
-          (one_word c.args.found.now _ _ c.truth_word.ensures c.requires.1)).1;
-    }
+    let q = given_both c.args.document.now (found_record c.args.answer) c.args.found.now (found_words c.args.answer) _ _ _ _
+    (ap found_record c.in-Found.is) (ap found_words c.in-Found.is) c.put_record.ensures
+    (one_word c.args.found.now _ _ c.truth_word.ensures c.requires.1) in
+    record { value = q.0; document_after = q.1 }
 
 pub returns-in-Refused : goal.returns-in-Refused
 returns-in-Refused c =
-    record { value = (refused-both c.args.document.now (found_record c.args.answer) c.args.found.now (found_words c.args.answer) _ _ (ap found_record c.in-Refused.is) (ap found_words c.in-Refused.is) c.refused.ensures).0; document_after = (refused-both c.args.document.now (found_record c.args.answer) c.args.found.now (found_words c.args.answer) _ _ (ap found_record c.in-Refused.is) (ap found_words c.in-Refused.is) c.refused.ensures).1 }
+    let q = refused-both c.args.document.now (found_record c.args.answer) c.args.found.now (found_words c.args.answer) _ _ (ap found_record c.in-Refused.is) (ap found_words c.in-Refused.is) c.refused.ensures in
+    record { value = q.0; document_after = q.1 }

@@ -7,15 +7,12 @@ use Rattle.encoding.proofs.answer.give_made.Goals as goal
 
 pub returns-in-Made : goal.returns-in-Made
 returns-in-Made c =
-    record {
-      value = (given_both c.args.document.now (made_record c.args.answer) c.args.made.now (made_words c.args.answer) _ _ _ _
-          (ap made_record c.in-Made.is) (ap made_words c.in-Made.is) c.put_record.ensures
-          (one_word c.args.made.now _ _ c.word_of.ensures c.requires.1)).0;
-      document_after = (given_both c.args.document.now (made_record c.args.answer) c.args.made.now (made_words c.args.answer) _ _ _ _
-          (ap made_record c.in-Made.is) (ap made_words c.in-Made.is) c.put_record.ensures
-          (one_word c.args.made.now _ _ c.word_of.ensures c.requires.1)).1;
-    }
+    let q = given_both c.args.document.now (made_record c.args.answer) c.args.made.now (made_words c.args.answer) _ _ _ _
+    (ap made_record c.in-Made.is) (ap made_words c.in-Made.is) c.put_record.ensures
+    (one_word c.args.made.now _ _ c.word_of.ensures c.requires.1) in
+    record { value = q.0; document_after = q.1 }
 
 pub returns-in-Refused : goal.returns-in-Refused
 returns-in-Refused c =
-    record { value = (refused-both c.args.document.now (made_record c.args.answer) c.args.made.now (made_words c.args.answer) _ _ (ap made_record c.in-Refused.is) (ap made_words c.in-Refused.is) c.refused.ensures).0; document_after = (refused-both c.args.document.now (made_record c.args.answer) c.args.made.now (made_words c.args.answer) _ _ (ap made_record c.in-Refused.is) (ap made_words c.in-Refused.is) c.refused.ensures).1 }
+    let q = refused-both c.args.document.now (made_record c.args.answer) c.args.made.now (made_words c.args.answer) _ _ (ap made_record c.in-Refused.is) (ap made_words c.in-Refused.is) c.refused.ensures in
+    record { value = q.0; document_after = q.1 }

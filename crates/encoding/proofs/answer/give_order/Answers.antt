@@ -7,8 +7,10 @@ use Rattle.encoding.proofs.answer.give_order.Goals as goal
 
 pub returns-in-Order : goal.returns-in-Order
 returns-in-Order c =
-    record { value = (given c.args.document.now (order_record c.args.answer) _ _ (ap order_record c.in-Order.is) c.put_record.ensures).0; document_after = (given c.args.document.now (order_record c.args.answer) _ _ (ap order_record c.in-Order.is) c.put_record.ensures).1 }
+    let q = given c.args.document.now (order_record c.args.answer) _ _ (ap order_record c.in-Order.is) c.put_record.ensures in
+    record { value = q.0; document_after = q.1 }
 
 pub returns-in-Refused : goal.returns-in-Refused
 returns-in-Refused c =
-    record { value = (refused c.args.document.now (order_record c.args.answer) _ _ (ap order_record c.in-Refused.is) c.refused.ensures).0; document_after = (refused c.args.document.now (order_record c.args.answer) _ _ (ap order_record c.in-Refused.is) c.refused.ensures).1 }
+    let q = refused c.args.document.now (order_record c.args.answer) _ _ (ap order_record c.in-Refused.is) c.refused.ensures in
+    record { value = q.0; document_after = q.1 }

@@ -114,4 +114,5 @@ returns c =
     let S = lowest-freeable (word_of c.args.id) w.result c.args.stack.now (stack_some d (length mem) (length c.args.stack.now) c.requires.0 c.requires.1) w.ensures (decode d mem) c.requires.2 in
     let l = c.loop-height in
     let F = l.invariant in
-    record { step = (lowest-last (word_of c.args.id) w.result c.args.stack.now (stack_some d (length mem) (length c.args.stack.now) c.requires.0 c.requires.1) w.ensures d mem _ _ (freeing-last d mem _ c.requires.0 S _ _ _ _ _ _ F c.loop-height-test.false)).0; reclaimable = (lowest-last (word_of c.args.id) w.result c.args.stack.now (stack_some d (length mem) (length c.args.stack.now) c.requires.0 c.requires.1) w.ensures d mem _ _ (freeing-last d mem _ c.requires.0 S _ _ _ _ _ _ F c.loop-height-test.false)).1 }
+    let q = lowest-last (word_of c.args.id) w.result c.args.stack.now (stack_some d (length mem) (length c.args.stack.now) c.requires.0 c.requires.1) w.ensures d mem _ _ (freeing-last d mem _ c.requires.0 S _ _ _ _ _ _ F c.loop-height-test.false) in
+    record { step = q.0; reclaimable = q.1 }

@@ -41,4 +41,5 @@ drop_from-requires c =
 
 pub returns : goal.returns
 returns c =
-    record { value = (drop-told c.args.d (which_of c.args.arena) c.args.mem.now _ _ c.arena_limit-limit.ensures c.arena_at-start.ensures _ _ c.requires.1 _ _ _ (c.drop_from.ensures.by_index, c.drop_from.ensures.by_index_2)).0; mem_after = (drop-told c.args.d (which_of c.args.arena) c.args.mem.now _ _ c.arena_limit-limit.ensures c.arena_at-start.ensures _ _ c.requires.1 _ _ _ (c.drop_from.ensures.by_index, c.drop_from.ensures.by_index_2)).1 }
+    let q = drop-told c.args.d (which_of c.args.arena) c.args.mem.now _ _ c.arena_limit-limit.ensures c.arena_at-start.ensures _ _ c.requires.1 _ _ _ (c.drop_from.ensures.by_index, c.drop_from.ensures.by_index_2) in
+    record { value = q.0; mem_after = q.1 }

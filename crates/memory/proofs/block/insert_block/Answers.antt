@@ -41,4 +41,5 @@ insert_into-requires c =
 
 pub returns : goal.returns
 returns c =
-    record { value = (insert-told c.args.d (which_of c.args.arena) c.args.mem.now _ _ c.arena_limit-limit.ensures c.arena_at-start.ensures _ _ c.requires.1 _ _ _ c.arena_used-used.ensures _ _ (c.insert_into.ensures.value, c.insert_into.ensures.arena_after)).0; mem_after = (insert-told c.args.d (which_of c.args.arena) c.args.mem.now _ _ c.arena_limit-limit.ensures c.arena_at-start.ensures _ _ c.requires.1 _ _ _ c.arena_used-used.ensures _ _ (c.insert_into.ensures.value, c.insert_into.ensures.arena_after)).1 }
+    let q = insert-told c.args.d (which_of c.args.arena) c.args.mem.now _ _ c.arena_limit-limit.ensures c.arena_at-start.ensures _ _ c.requires.1 _ _ _ c.arena_used-used.ensures _ _ (c.insert_into.ensures.value, c.insert_into.ensures.arena_after) in
+    record { value = q.0; mem_after = q.1 }

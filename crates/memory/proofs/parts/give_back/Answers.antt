@@ -47,4 +47,5 @@ reclaim-requires c =
 pub returns : goal.returns
 returns c =
     let got = c.reclaim in
-    record { reclaimed_to = (texts-told c.args.d c.args.mem.now c.text_limits-limits.result c.text_limits-limits.ensures c.text_counts-counts.result c.text_counts-counts.ensures _ c.texts_at-start.ensures c.requires.0 (λ l n w v. ReclaimedTo l n w v got.result) _ got.auto.words got.ensures).0; mem_after = (texts-told c.args.d c.args.mem.now c.text_limits-limits.result c.text_limits-limits.ensures c.text_counts-counts.result c.text_counts-counts.ensures _ c.texts_at-start.ensures c.requires.0 (λ l n w v. ReclaimedTo l n w v got.result) _ got.auto.words got.ensures).1 }
+    let q = texts-told c.args.d c.args.mem.now c.text_limits-limits.result c.text_limits-limits.ensures c.text_counts-counts.result c.text_counts-counts.ensures _ c.texts_at-start.ensures c.requires.0 (λ l n w v. ReclaimedTo l n w v got.result) _ got.auto.words got.ensures in
+    record { reclaimed_to = q.0; mem_after = q.1 }

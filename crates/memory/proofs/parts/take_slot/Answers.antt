@@ -23,4 +23,5 @@ alloc-requires c =
 pub returns : goal.returns
 returns c =
     let got = c.alloc in
-    record { value = (take-told c.args.d c.args.mem.now c.requires.0 _ _ c.made-slots.ensures c.free-stack.ensures got.result _ got.auto.words got.ensures).0; mem_after = (take-told c.args.d c.args.mem.now c.requires.0 _ _ c.made-slots.ensures c.free-stack.ensures got.result _ got.auto.words got.ensures).1 }
+    let q = take-told c.args.d c.args.mem.now c.requires.0 _ _ c.made-slots.ensures c.free-stack.ensures got.result _ got.auto.words got.ensures in
+    record { value = q.0; mem_after = q.1 }

@@ -53,4 +53,5 @@ pub returns : goal.returns
 returns c =
     let a = c.args in
     let got = c.intern in
-    record { interned_to = (names-told a.d a.mem.now c.name_limits-limits.result c.name_limits-limits.ensures c.name_counts-counts.result c.name_counts-counts.ensures _ c.names_at-start.ensures c.requires.0 (λ l n w v. InternedTo l n w v (name a.namespace.now a.local.now) got.result) _ got.auto.words got.ensures).0; mem_after = (names-told a.d a.mem.now c.name_limits-limits.result c.name_limits-limits.ensures c.name_counts-counts.result c.name_counts-counts.ensures _ c.names_at-start.ensures c.requires.0 (λ l n w v. InternedTo l n w v (name a.namespace.now a.local.now) got.result) _ got.auto.words got.ensures).1 }
+    let q = names-told a.d a.mem.now c.name_limits-limits.result c.name_limits-limits.ensures c.name_counts-counts.result c.name_counts-counts.ensures _ c.names_at-start.ensures c.requires.0 (λ l n w v. InternedTo l n w v (name a.namespace.now a.local.now) got.result) _ got.auto.words got.ensures in
+    record { interned_to = q.0; mem_after = q.1 }

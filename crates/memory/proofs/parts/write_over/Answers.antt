@@ -49,4 +49,5 @@ replace_text-requires c =
 pub returns : goal.returns
 returns c =
     let got = c.replace_text in
-    record { replaced_to = (texts-told c.args.d c.args.mem.now c.text_limits-limits.result c.text_limits-limits.ensures c.text_counts-counts.result c.text_counts-counts.ensures _ c.texts_at-start.ensures c.requires.0 (λ l n w v. ReplacedTo l n w v c.args.slot.0 c.args.text.now got.result) _ got.auto.words got.ensures).0; mem_after = (texts-told c.args.d c.args.mem.now c.text_limits-limits.result c.text_limits-limits.ensures c.text_counts-counts.result c.text_counts-counts.ensures _ c.texts_at-start.ensures c.requires.0 (λ l n w v. ReplacedTo l n w v c.args.slot.0 c.args.text.now got.result) _ got.auto.words got.ensures).1 }
+    let q = texts-told c.args.d c.args.mem.now c.text_limits-limits.result c.text_limits-limits.ensures c.text_counts-counts.result c.text_counts-counts.ensures _ c.texts_at-start.ensures c.requires.0 (λ l n w v. ReplacedTo l n w v c.args.slot.0 c.args.text.now got.result) _ got.auto.words got.ensures in
+    record { replaced_to = q.0; mem_after = q.1 }

@@ -51,4 +51,5 @@ store_text-requires c =
 pub returns : goal.returns
 returns c =
     let got = c.store_text in
-    record { stored_to = (texts-told c.args.d c.args.mem.now c.text_limits-limits.result c.text_limits-limits.ensures c.text_counts-counts.result c.text_counts-counts.ensures _ c.texts_at-start.ensures c.requires.0 (λ l n w v. StoredTo l n w v c.args.text.now got.result) _ got.auto.words got.ensures).0; mem_after = (texts-told c.args.d c.args.mem.now c.text_limits-limits.result c.text_limits-limits.ensures c.text_counts-counts.result c.text_counts-counts.ensures _ c.texts_at-start.ensures c.requires.0 (λ l n w v. StoredTo l n w v c.args.text.now got.result) _ got.auto.words got.ensures).1 }
+    let q = texts-told c.args.d c.args.mem.now c.text_limits-limits.result c.text_limits-limits.ensures c.text_counts-counts.result c.text_counts-counts.ensures _ c.texts_at-start.ensures c.requires.0 (λ l n w v. StoredTo l n w v c.args.text.now got.result) _ got.auto.words got.ensures in
+    record { stored_to = q.0; mem_after = q.1 }

@@ -20,9 +20,11 @@ overflow_add-out c =
 pub returns-then-is_live : goal.returns-then-is_live
 returns-then-is_live c =
     let a = c.args in
-    record { value = (slot-live a.d a.mem.now a.slot.0 c.requires.slot_bound.0 a.out.now a.count _ c.is_live.ensures c.if-is_live.true _ c.generation-generation.ensures c.requires.slot_bound.1).0; out_after = (slot-live a.d a.mem.now a.slot.0 c.requires.slot_bound.0 a.out.now a.count _ c.is_live.ensures c.if-is_live.true _ c.generation-generation.ensures c.requires.slot_bound.1).1 }
+    let q = slot-live a.d a.mem.now a.slot.0 c.requires.slot_bound.0 a.out.now a.count _ c.is_live.ensures c.if-is_live.true _ c.generation-generation.ensures c.requires.slot_bound.1 in
+    record { value = q.0; out_after = q.1 }
 
 pub returns : goal.returns
 returns c =
     let a = c.args in
-    record { value = (slot-none a.d a.mem.now a.slot.0 c.requires.slot_bound.0 a.out.now a.count _ c.is_live.ensures c.if-is_live.false).0; out_after = (slot-none a.d a.mem.now a.slot.0 c.requires.slot_bound.0 a.out.now a.count _ c.is_live.ensures c.if-is_live.false).1 }
+    let q = slot-none a.d a.mem.now a.slot.0 c.requires.slot_bound.0 a.out.now a.count _ c.is_live.ensures c.if-is_live.false in
+    record { value = q.0; out_after = q.1 }

@@ -39,4 +39,5 @@ pub returns : goal.returns
 returns c =
     let a = c.args in
     let inv = c.loop-i.invariant in
-    record { value = (below_all a.d a.mem.now c.loop-i.i c.made-made.result _ a.out.now _ c.made-made.ensures (omega arith) (omega arith) inv.2 inv.3).0; out_after = (below_all a.d a.mem.now c.loop-i.i c.made-made.result _ a.out.now _ c.made-made.ensures (omega arith) (omega arith) inv.2 inv.3).1 }
+    let q = below_all a.d a.mem.now c.loop-i.i c.made-made.result _ a.out.now _ c.made-made.ensures (omega arith) (omega arith) inv.2 inv.3 in
+    record { value = q.0; out_after = q.1 }

@@ -98,4 +98,5 @@ pub returns : goal.returns
 returns c =
     let l = c.loop-slot in
     let a = c.args in
-    record { words_after = (closed a.limits a.counts a.words.now c.requires.0 a.marks.now l.words l.slot l.from l.to l.invariant c.loop-slot-test.false).0; value = (closed a.limits a.counts a.words.now c.requires.0 a.marks.now l.words l.slot l.from l.to l.invariant c.loop-slot-test.false).1.0; upper_bound = (closed a.limits a.counts a.words.now c.requires.0 a.marks.now l.words l.slot l.from l.to l.invariant c.loop-slot-test.false).1.1 }
+    let q = closed a.limits a.counts a.words.now c.requires.0 a.marks.now l.words l.slot l.from l.to l.invariant c.loop-slot-test.false in
+    record { words_after = q.0; value = q.1.0; upper_bound = q.1.1 }

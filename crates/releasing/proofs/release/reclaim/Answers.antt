@@ -7,7 +7,8 @@ use Rattle.releasing.proofs.release.reclaim.Goals as goal
 pub mark_free-requires : goal.mark_free-requires
 mark_free-requires c =
     let a = c.args in
-    record { free_in_bounds = (markable a.limits a.counts a.words.now c.requires.0 a.marks.now _ c.requires.1 c.clear.ensures (omega arith)).0; markable = (markable a.limits a.counts a.words.now c.requires.0 a.marks.now _ c.requires.1 c.clear.ensures (omega arith)).1 }
+    let q = markable a.limits a.counts a.words.now c.requires.0 a.marks.now _ c.requires.1 c.clear.ensures (omega arith) in
+    record { free_in_bounds = q.0; markable = q.1 }
 
 pub returns : goal.returns
 returns c =

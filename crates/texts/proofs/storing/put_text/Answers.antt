@@ -32,4 +32,5 @@ pub returns : goal.returns
 returns c =
     let a = c.args in
     let made = c.make_room-room in
-    record { value = (written a.limits a.counts a.words.now a.slot.0 made.result made.ensures.value a.text.now _ _ made.ensures.words_after c.write_bytes.ensures).0; words_after = (written a.limits a.counts a.words.now a.slot.0 made.result made.ensures.value a.text.now _ _ made.ensures.words_after c.write_bytes.ensures).1 }
+    let q = written a.limits a.counts a.words.now a.slot.0 made.result made.ensures.value a.text.now _ _ made.ensures.words_after c.write_bytes.ensures in
+    record { value = q.0; words_after = q.1 }

@@ -22,4 +22,5 @@ shape_of-stack c = c.loop-k.invariant.1
 pub returns : goal.returns
 returns c =
     let i = c.loop-k.invariant in
-    record { value = (entries-all _ _ _ _ _ i.0 c.loop-k-test.false i.2).0; stack_after = (entries-all _ _ _ _ _ i.0 c.loop-k-test.false i.2).1 }
+    let q = entries-all _ _ _ _ _ i.0 c.loop-k-test.false i.2 in
+    record { value = q.0; stack_after = q.1 }

@@ -59,4 +59,5 @@ returns c =
     let q = c.push_entries-first.ensures in
     let r = c.push_entries-second.ensures in
     let t = c.push_entries.ensures in
-    record { value = (lists_pushed l c.args.height A B C c.requires.1 _ _ _ c.list_of-children.ensures q.value q.stack_after _ _ _ c.list_of-attributes.ensures r.value r.stack_after _ _ _ c.list_of-namespaces.ensures t.value t.stack_after).0; stack_after = (lists_pushed l c.args.height A B C c.requires.1 _ _ _ c.list_of-children.ensures q.value q.stack_after _ _ _ c.list_of-attributes.ensures r.value r.stack_after _ _ _ c.list_of-namespaces.ensures t.value t.stack_after).1 }
+    let h = lists_pushed l c.args.height A B C c.requires.1 _ _ _ c.list_of-children.ensures q.value q.stack_after _ _ _ c.list_of-attributes.ensures r.value r.stack_after _ _ _ c.list_of-namespaces.ensures t.value t.stack_after in
+    record { value = h.0; stack_after = h.1 }

@@ -121,4 +121,5 @@ returns c =
     let r = c.live_block-block in
     let b = block_read a.d a.mem.now w a.slot.0 c.requires.0.held r.result r.ensures in
     let i = c.loop-k.invariant in
-    record { value = (list-numbered a.d a.mem.now ok w _ c.arena_at-first.ensures a.slot.0 r.result b a.key _ _ i.0 c.loop-k-test.false i.2).0; mem_after = (list-numbered a.d a.mem.now ok w _ c.arena_at-first.ensures a.slot.0 r.result b a.key _ _ i.0 c.loop-k-test.false i.2).1 }
+    let q = list-numbered a.d a.mem.now ok w _ c.arena_at-first.ensures a.slot.0 r.result b a.key _ _ i.0 c.loop-k-test.false i.2 in
+    record { value = q.0; mem_after = q.1 }
