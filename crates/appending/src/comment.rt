@@ -1,40 +1,29 @@
 // A new comment goes behind a node's children.
 ghost use Rattle.records.specs.Handles.{word_of};
 ghost use Rattle.model.specs.Calls.{append-comment};
-ghost use Rattle.memory.specs.Undamaged.{Undamaged};
-ghost use Rattle.editing.specs.Contract.{Edits, Answers};
+ghost use Rattle.editing.specs.Contract.{Edits};
 ghost use Rattle.editing.specs.Answers.{of_made, after_made};
 
 use editing::admission::admit;
-use editing::answers::MadeAnswer;
 use edits::append::do_append_comment;
+use edits::born::NewNode;
 use layout::Document;
+use model::Refusal;
 use plans::appends::plan_append_comment;
 use records::NodeId;
-use verdicts::verdict::Verdict;
-
-fn append_checked(d: Document, mem: &mut [u64], parent: NodeId, text: &[u8]) -> MadeAnswer
-    requires { Undamaged d mem.old }
-    ensures { Answers (append-comment (word_of parent) text.now) d mem.old (of_made result) (after_made d result) mem.new }
-{
-    match plan_append_comment(d, &mem[..], parent, text) {
-        Verdict::Refused(why) => MadeAnswer::Refused(why),
-        Verdict::Accepted => MadeAnswer::Made(do_append_comment(d, mem, parent, text)),
-    }
-}
 
 // Rules out a comment with two hyphens in a row, and a node before the last child.
+// Stays: one call for it and `append_text` would be given the plan, the step and, in its clause, the call; each is these three lines.
 pub fn append_comment(
     d: Document,
     mem: &mut [u64],
     scratch: &mut [u64],
     parent: NodeId,
     text: &[u8],
-) -> MadeAnswer
+) -> Result<NewNode, Refusal>
     ensures { Edits (append-comment (word_of parent) text.now) d mem.old scratch.old (of_made result) (after_made d result) mem.new scratch.new }
 {
-    match admit(d, &mem[..], scratch) {
-        Verdict::Refused(why) => MadeAnswer::Refused(why),
-        Verdict::Accepted => append_checked(d, mem, parent, text),
-    }
+    admit(d, &mem[..], scratch)?;
+    plan_append_comment(d, &mem[..], parent, text)?;
+    Ok(do_append_comment(d, mem, parent, text))
 }

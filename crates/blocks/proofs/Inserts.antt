@@ -6,27 +6,19 @@ use mathlib.Core.List.{List}
 use Prim.Native.Nat.{ℕ, ◌+◌, ◌*◌, ◌-◌, ◌≤◌, ◌<◌, min, max}
 use native.Mathlib.Decide.{dec_lt}
 use native.Mathlib.Omega.{arith}
-use lib.ListN.{length, get_or, set, take, drop, replicate}
-use lib.Seq.{get_or-drop}
+use lib.ListN.{length, set, take, drop, replicate}
 use lib.Dec.{leb}
 use borrow.Author.Tests.{leb-true, leb-false}
 use Rattle.words.specs.Parts.{part, put}
 use Rattle.words.specs.Lists.{insert_at}
 use Rattle.words.proofs.Lists.{insert_at-min}
+use Rattle.std.specs.Prelude.{Option, Some, None}
 use Rattle.blocks.specs.declared.Inserted.{Inserted}
-use Rattle.blocks.specs.declared.Inserted.TheVariants.{At, Full}
 use Rattle.blocks.specs.Arena.{block, arena_of, capacity_of, takes, has_room, moved_capacity}
 use Rattle.blocks.specs.Answer.{insert_answer, insert_words}
 use Rattle.blocks.specs.Held.{Held}
-use Rattle.blocks.proofs.Capacities.{capacity-empty, capacity-some}
 use Rattle.blocks.proofs.Edits.{takes_none, takes_moved, room-when, no-room-when, inserted-in-place, inserted-moved, list_length, insert_at-length}
 use Rattle.blocks.proofs.Halves.{ids-length, put-ids, put-cleared-ids, shaped-held, inside-held, half, block-ids}
-
-pub capacity-none : (w : List ℕ) (limit s n : ℕ) → n ≡ 0 → 0 ≡ capacity_of (drop limit w) (block s n)
-capacity-none w limit s n e = sym (capacity-empty (drop limit w) (block s n) e)
-
-pub capacity-read : (w : List ℕ) (limit s n r : ℕ) → (n ≡ 0 → ⊥) → r ≡ max n (get_or w (limit + s) 0) → r ≡ capacity_of (drop limit w) (block s n)
-capacity-read w limit s n r h e = e ∙ ap (max n) (sym (get_or-drop limit w s 0)) ∙ sym (capacity-some (drop limit w) (block s n) h)
 
 -- the entries that an insertion takes, whatever the length in use
 pub entries_none : (w : List ℕ) (limit s n cap : ℕ) → cap ≡ capacity_of (drop limit w) (block s n) → n < cap → (used : ℕ) → 0 ≡ takes (arena_of limit used w) (block s n)
@@ -74,11 +66,11 @@ module _ (w : List ℕ) (limit used s n : ℕ) (held : Held w limit used s n) wh
 
   module _ (k id more : ℕ) (e : more ≡ takes (arena_of limit used w) (block s n)) where
     -- the answer and the words that the code hands back
-    abbrev pub Inserts : Inserted → List ℕ → Type 0
+    abbrev pub Inserts : Option Inserted → List ℕ → Type 0
     Inserts r w' =
         (r ≡ insert_answer (arena_of limit used w) (block s n) k id) × (w' ≡ insert_words w (arena_of limit used w) (block s n) k id)
 
-    pub inserts-full : limit - used < more → Inserts Full w
+    pub inserts-full : limit - used < more → Inserts None w
     unfolding insert_answer insert_words
     inserts-full h =
         rw (no-room-when (arena_of limit used w) (block s n) (omega (arith, ids-length w limit (half w limit used s n held), held.fits))) (refl, refl)
@@ -96,24 +88,24 @@ module _ (w : List ℕ) (limit used s n : ℕ) (held : Held w limit used s n) wh
       new-length : length (insert_at k id (part s n (take limit w))) ≡ n + 1
       new-length = insert_at-length (arena_of limit used w) (block s n) (shaped-held w limit used s n held) (inside-held w limit used s n held) k id
 
-      pub inserts-in-place : more ≡ 0 → (w' : List ℕ) → w' ≡ put s (insert_at index id (part s n w)) w → Inserts (At s (n + 1) used index) w'
+      pub inserts-in-place : more ≡ 0 → (w' : List ℕ) → w' ≡ put s (insert_at index id (part s n w)) w → Inserts (Some (record { block = block s (n + 1); used = used; index = index })) w'
       unfolding insert_answer insert_words
       inserts-in-place z w' q =
           let spare : n < capacity_of (drop limit w) (block s n) = spare-when (omega arith) in
           rw (room, inserted-in-place (arena_of limit used w) (block s n) k id spare) (
-            ap (At s (n + 1) used) m,
+            ap (λ (i : ℕ). Some (record { block = block s (n + 1); used = used; index = i })) m,
             q ∙ ap (λ (l : List ℕ). put s l w) clamped
                 ∙ put-ids w limit (half w limit used s n held) s (insert_at k id (part s n (take limit w))) (omega (arith, new-length, held.fits, held.inside)),
           )
 
       pub inserts-moved : (more ≡ 0 → ⊥) → (w' : List ℕ) → w' ≡ set (put (limit + used) (replicate more 0) (set (put used (insert_at index id (part s n w)) w) (limit + s) 0)) (limit + used) more
-          → Inserts (At used (n + 1) (used + more) index) w'
+          → Inserts (Some (record { block = block used (n + 1); used = used + more; index = index })) w'
       unfolding insert_answer insert_words
       inserts-moved z w' q =
           let past : capacity_of (drop limit w) (block s n) ≤ n = moved-when (λ t. z (e ∙ t)) in
           let r : more ≡ moved_capacity n = e ∙ takes_moved (arena_of limit used w) (block s n) past in
           rw (room, inserted-moved (arena_of limit used w) (block s n) k id past, r) (
-            ap (At used (n + 1) (used + moved_capacity n)) m,
+            ap (λ (i : ℕ). Some (record { block = block used (n + 1); used = used + moved_capacity n; index = i })) m,
             q ∙ ap (λ (l : List ℕ). set (put (limit + used) (replicate more 0) (set (put used l w) (limit + s) 0)) (limit + used) more) clamped
                 ∙ ap (λ (c : ℕ). set (put (limit + used) (replicate c 0) (set (put used (insert_at k id (part s n (take limit w))) w) (limit + s) 0)) (limit + used) c) r
                 ∙ put-cleared-ids w limit (half w limit used s n held) (insert_at k id (part s n (take limit w))) used s used (moved_capacity n) (moved_capacity n) (omega (arith, new-length, held.fits)),

@@ -11,6 +11,9 @@ use borrow.Author.Tests.{eq-eqb, ne_eqb, le-leb, lt-leb, leb-true, leb-false}
 use Rattle.words.specs.Parts.{part, put}
 use Rattle.words.specs.Lists.{index_of, remove_at, without}
 use Rattle.words.proofs.Lists.{without-remove_at}
+use Rattle.words.proofs.Parts.{length_part}
+use Rattle.std.specs.Prelude.{Some, None, position}
+use Rattle.words.proofs.Searches.{position-some, position-none}
 use Rattle.blocks.specs.Arena.{block, Edit, arena_of, arena_words, capacity_of, has_room, removed, dropped_from}
 use Rattle.blocks.specs.Answer.{has_room_after_removal}
 use Rattle.blocks.specs.Rule.{Inside, Shaped}
@@ -18,6 +21,20 @@ use Rattle.blocks.specs.Held.{Held}
 use Rattle.blocks.proofs.Edits.{removed-there, removed-absent, without-length}
 use Rattle.blocks.proofs.Halves.{ids-length, put-set-ids, shaped-held, inside-held, half, held_fits, block-ids}
 use Rattle.blocks.proofs.Removal.{takes-removed}
+
+-- ---- where the id stands in the block
+
+module _ (w : List ℕ) (limit used s n : ℕ) (held : Held w limit used s n) (id : ℕ) where
+  size : length (part s n w) ≡ n
+  size = length_part w s n (omega (arith, held_fits w limit used s n held, held.twice))
+
+  pub index-there : (at : ℕ) → position (eqb id) (part s n w) ≡ Some at → (at ≡ index_of (eqb id) (part s n w)) × (at < n)
+  index-there at e =
+      let i = position-some (eqb id) (part s n w) at e in
+      (sym i.1, omega (arith, i.0, size))
+
+  pub index-absent : position (eqb id) (part s n w) ≡ None → n ≤ index_of (eqb id) (part s n w)
+  index-absent e = omega (arith, position-none (eqb id) (part s n w) e, size)
 
 -- ---- removal, whatever the length in use
 

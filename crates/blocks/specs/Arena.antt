@@ -3,11 +3,11 @@
 use Rattle.std.specs.Prelude.{Bool, cond, List, ◌++◌, ℕ, ◌+◌, ◌*◌, max, min, length, take, drop, get_or, set, replicate, eqb, ltb, leb}
 use Rattle.words.specs.Parts.{part, put}
 use Rattle.words.specs.Lists.{insert_at, index_of, without}
+use Rattle.blocks.specs.declared.Block as code
 
 -- "A block is (start, len) in an arena, first (0, 0)."
-pub record Block : Type 0 where
-  pub start : ℕ
-  pub len : ℕ
+abbrev pub Block : Type 0
+Block = code.Block
 
 abbrev pub block : ℕ → ℕ → Block
 block s n = record { start = s; len = n }

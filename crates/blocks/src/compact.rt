@@ -3,13 +3,15 @@ ghost use Rattle.std.specs.Prelude.{◌≡◌, ◌+◌, ◌≤◌, length};
 ghost use Rattle.blocks.specs.Arena.{arena_words};
 ghost use Rattle.blocks.specs.Compact.{copied, BlockCopied};
 
+use crate::Block;
+
 // Copies the block after the used entries that were copied before.
-pub fn copy_block(arena: &mut [u64], limit: usize, used: usize, start: usize, len: usize)
+pub fn copy_block(arena: &mut [u64], limit: usize, used: usize, block: Block)
     requires arena_len { length arena.old ≡ limit + limit }
-    requires len_bound { (start + len ≤ limit) × (used + len ≤ limit) }
-    ensures { BlockCopied arena.old arena.new limit used start len }
+    requires len_bound { (block.start + block.len ≤ limit) × (used + block.len ≤ limit) }
+    ensures { BlockCopied arena.old arena.new limit used block.start block.len }
 {
-    words::copy(arena, start, len, limit + used);
+    words::copy(arena, block.start, block.len, limit + used);
 }
 
 // The copies, used entries in all, replace the ids, and no capacity is recorded.

@@ -1,36 +1,25 @@
 // Deciding rule 5 for one arena: blocks claimed one after another, with a mark for each entry in use.
 ghost use Rattle.std.specs.Prelude.{◌≡◌, ℕ, ◌+◌, ◌≤◌, length, eqb};
-ghost use Rattle.words.specs.Parts.{part};
 ghost use Rattle.words.specs.Lists.{all};
-ghost use Rattle.blocks.specs.Arena.{arena_of, block};
+ghost use Rattle.blocks.specs.Arena.{arena_of};
 ghost use Rattle.blocks.specs.Claims.{claimable, claimed, block_claimable, block_claimed};
 
-// Whether the n marks from index at on are all 0.
-fn all_zero(marks: &[u64], at: usize, n: usize) -> bool
-    requires { at + n ≤ length marks.now }
-    ensures { result ≡ all (eqb 0) (part at n marks.now) }
+use crate::{Block, capacity};
+
+fn all_zero(marks: &[u64]) -> bool
+    ensures { result ≡ all (eqb 0) marks.now }
 {
-    let mut k = 0;
-    while k < n {
-        if marks[at + k] != 0 {
-            return false;
-        }
-        k += 1;
-    }
-    true
+    marks.iter().all(|mark| 0 == *mark)
 }
 
 // Whether the entries have marks and none is claimed. A capacity may be near 2^64, so it is compared before any sum.
 fn unclaimed(marks: &[u64], start: usize, capacity: usize) -> bool
     ensures { result ≡ claimable marks.now start capacity }
 {
-    if marks.len() < start {
+    if marks.len() < start || marks.len() - start < capacity {
         return false;
     }
-    if marks.len() - start < capacity {
-        return false;
-    }
-    all_zero(marks, start, capacity)
+    all_zero(&marks[start..start + capacity])
 }
 
 // Claims the capacity entries from index start on, if they have marks and none is claimed.
@@ -46,17 +35,13 @@ pub fn claim(marks: &mut [u64], start: usize, capacity: usize) -> bool
 }
 
 // The same for a block with its capacity.
-pub fn claim_block(arena: &[u64], limit: usize, marks: &mut [u64], start: usize, len: usize) -> bool
+pub fn claim_block(arena: &[u64], limit: usize, marks: &mut [u64], block: Block) -> bool
     requires { (length arena.now ≡ limit + limit) × (length marks.old ≤ limit) }
-    ensures by_index { (used : ℕ) → result ≡ block_claimable (arena_of limit used arena.now) marks.old (block start len) }
-    ensures by_index_2 { (used : ℕ) → marks.new ≡ block_claimed (arena_of limit used arena.now) marks.old (block start len) }
+    ensures by_index { (used : ℕ) → result ≡ block_claimable (arena_of limit used arena.now) marks.old block }
+    ensures by_index_2 { (used : ℕ) → marks.new ≡ block_claimed (arena_of limit used arena.now) marks.old block }
 {
-    if limit < start {
+    if limit < block.start || limit - block.start < block.len {
         return false;
     }
-    if limit - start < len {
-        return false;
-    }
-    let cap = crate::capacity(arena, limit, start, len);
-    claim(marks, start, cap)
+    claim(marks, block.start, capacity(arena, limit, block))
 }

@@ -2,46 +2,43 @@
 -- Assumes nothing.
 use mathlib.Core.Path.{◌≡◌, refl, sym, ap, ◌∙◌}
 use mathlib.Core.Bool.{Bool, true, false, ◌&&◌, and-false, or-true, false≢true}
-use mathlib.Core.Option.{Option, none, some}
 use mathlib.Core.List.{List, [], ◌∷◌, map, map-id}
 use Prim.Native.Nat.{ℕ, ◌≤◌, ◌<◌}
 use native.Mathlib.Decide.{dec_lt}
 use native.Mathlib.Omega.{arith}
 use lib.Dec.{eqb, ltb}
-use lib.ListN.{drop}
+use lib.ListN.{drop, get_or}
 use borrow.Author.Tests.{ltb-true, ne_eqb}
 use Rattle.words.specs.Lists.{all}
-use Rattle.chars.specs.declared.Step.{Step}
-use Rattle.chars.specs.declared.Step.TheVariants.{Point, Bad}
-use Rattle.chars.specs.Utf8.{step_at, follows, and_then, decode}
+use Rattle.std.specs.Prelude.{Some, None, Option}
+use Rattle.chars.specs.Utf8.{Step, point, step_at, follows, and_then, decode}
 use Rattle.chars.specs.Checks.{quoted, spells, is_empty, is_xmlns, lower, is_xml, is_space, is_white_space, tested, of_text}
 use Rattle.chars.proofs.Ranges.{outside}
 use Rattle.chars.proofs.Steps.{by_row}
 use Rattle.chars.proofs.Rows.{Known}
-use Rattle.chars.proofs.Turns.{no-space}
 use Rattle.chars.proofs.Decoding.{Spelled, sound, decode-cons}
 
 -- an ASCII byte is a code point by itself
 pub decode-ascii : (a : ℕ) (b : List ℕ) → a < 0x80 → decode (a ∷ b) ≡ follows a (decode b)
 unfolding step_at
-decode-ascii a b h = decode-cons a b ∙ ap (λ (s : Step). and_then s (λ (n : ℕ). decode (drop n b))) (sym (by_row 0x00 0x7F 0 a _ _ _ (Point a 0) (omega arith) (omega arith) refl refl))
+decode-ascii a b h = decode-cons a b ∙ ap (λ (s : Step). and_then s (λ (n : ℕ). decode (drop n b))) (sym (by_row 0x00 0x7F 0 a _ _ _ (point a 0) (omega arith) (omega arith) refl refl))
 
 -- anything else is no text, or begins one with a code point that is no ASCII character
-high-first : (a : ℕ) (b : List ℕ) (test : Option (List ℕ) → Bool) → 0x80 ≤ a → test none ≡ false
+high-first : (a : ℕ) (b : List ℕ) (test : Option (List ℕ) → Bool) → 0x80 ≤ a → test None ≡ false
     → ((code : ℕ) (o : Option (List ℕ)) → 0x80 ≤ code → test (follows code o) ≡ false) → test (decode (a ∷ b)) ≡ false
 unfolding step_at
 high-first a b test h n f = ap test (decode-cons a b) ∙ go (step_at (a ∷ b) 0) (sound a _ _ _)
   where
-    go : (s : Step) → Known (Spelled a) s → test (and_then s (λ (n : ℕ). decode (drop n b))) ≡ false
-    go (Point code more) k = f code (decode (drop more b)) (k.high h)
-    go Bad k = n
+    go : (s : Step) → Known (Spelled a (get_or b 0 0) (get_or b 1 0) (get_or b 2 0)) s → test (and_then s (λ (n : ℕ). decode (drop n b))) ≡ false
+    go (Some p) k = f p.code (decode (drop p.more b)) (k.high h)
+    go None k = n
 
 -- ---- all code points pass
 
 module _ (p : ℕ → Bool) (low : (c : ℕ) → 0x80 ≤ c → p c ≡ false) where
   tested-follows : (code : ℕ) (o : Option (List ℕ)) → tested (all p) (follows code o) ≡ (p code && tested (all p) o)
-  tested-follows code none = sym (and-false (p code))
-  tested-follows code (some l) = refl
+  tested-follows code None = sym (and-false (p code))
+  tested-follows code (Some l) = refl
 
   pub all-bytes : (b : List ℕ) → tested (all p) (decode b) ≡ all p b
   unfolding decode
@@ -62,14 +59,14 @@ module _ (f : ℕ → ℕ) (keeps : (c : ℕ) → 0x80 ≤ c → 0x80 ≤ f c) w
 
   spelt-nil : (code : ℕ) (o : Option (List ℕ)) → tested (spelt []) (follows code o) ≡ false
   unfolding spelt
-  spelt-nil code none = refl
-  spelt-nil code (some l) = refl
+  spelt-nil code None = refl
+  spelt-nil code (Some l) = refl
 
   spelt-cons : (x : ℕ) (k : List ℕ) (code : ℕ) (o : Option (List ℕ))
       → tested (spelt (x ∷ k)) (follows code o) ≡ (eqb x (f code) && tested (spelt k) o)
   unfolding spelt
-  spelt-cons x k code none = sym (and-false (eqb x (f code)))
-  spelt-cons x k code (some l) = refl
+  spelt-cons x k code None = sym (and-false (eqb x (f code)))
+  spelt-cons x k code (Some l) = refl
 
   apart : (x c : ℕ) → ltb x 0x80 ≡ true → 0x80 ≤ c → eqb x (f c) ≡ false
   apart x c h k =
@@ -119,8 +116,8 @@ pub spells-bytes : (k : List ℕ) → all (λ (x : ℕ). ltb x 0x80) k ≡ true 
 spells-bytes k h b = sym (same (decode b)) ∙ spelt-bytes (λ (c : ℕ). c) (λ c j. j) k h b ∙ ap (spells k) (map-id b)
   where
     same : (o : Option (List ℕ)) → tested (λ (l : List ℕ). spells k (map (λ (c : ℕ). c) l)) o ≡ tested (spells k) o
-    same none = refl
-    same (some l) = ap (spells k) (map-id l)
+    same None = refl
+    same (Some l) = ap (spells k) (map-id l)
 
 -- "xmlns" is as well said of the bytes, and so is "xml" in any ASCII case
 pub xmlns-bytes : (b : List ℕ) → of_text is_xmlns b ≡ is_xmlns b
@@ -136,7 +133,8 @@ xml-bytes b = spelt-bytes lower lower-keeps (quoted "xml") refl b
 
 -- white space is as well said of the bytes
 high-space : (c : ℕ) → 0x80 ≤ c → is_space c ≡ false
-high-space c h = sym (no-space c (λ e. omega arith) (λ e. omega arith) (λ e. omega arith))
+unfolding is_space
+high-space c h = rw (ne_eqb c 0x20 (λ e. omega arith), ne_eqb c 0x9 (λ e. omega arith), ne_eqb c 0xA (λ e. omega arith))
 
 pub white-space-bytes : (b : List ℕ) → of_text is_white_space b ≡ is_white_space b
 unfolding of_text is_white_space
@@ -151,5 +149,5 @@ empty-bytes b = sym (same (decode b)) ∙ spells-bytes [] refl b ∙ nil b
     nil (x ∷ l) = refl
 
     same : (o : Option (List ℕ)) → tested (spells []) o ≡ tested is_empty o
-    same none = refl
-    same (some l) = nil l
+    same None = refl
+    same (Some l) = nil l

@@ -3,7 +3,6 @@
 use mathlib.Core.Path.{◌≡◌, refl, sym, ap, ◌∙◌}
 use mathlib.Core.Bool.{Bool, true, ◌&&◌, and-false, false≢true}
 use mathlib.Core.Logic.{◌⊎◌, inl, inr}
-use mathlib.Core.Option.{Option, none, some}
 use mathlib.Core.List.{List, [], ◌∷◌, ◌++◌}
 use Prim.Native.Nat.{ℕ, zero, suc, ◌+◌, ◌-◌, ◌*◌, ◌/◌, ◌%◌, ◌≤◌, ◌<◌}
 use native.Mathlib.Decide.{dec_lt}
@@ -12,10 +11,9 @@ use lib.Dec.{leb}
 use lib.ListN.{length, get_or, take, drop, length-drop, take-append-drop}
 use borrow.Author.Tests.{le-leb, lt-ltb, le-ltb}
 use Rattle.words.specs.Lists.{all, joined}
-use Rattle.chars.specs.declared.Step.{Step}
-use Rattle.chars.specs.declared.Step.TheVariants.{Point, Bad}
+use Rattle.std.specs.Prelude.{Some, None, Option}
 use Rattle.chars.specs.Productions.{within}
-use Rattle.chars.specs.Utf8.{two, three, four, rows, step, step_at, follows, and_then, decode, encode}
+use Rattle.chars.specs.Utf8.{Step, point, two, three, four, rows, step, step_at, follows, and_then, decode, encode}
 use Rattle.chars.proofs.Steps.{stands, row_step, by_row}
 use Rattle.chars.proofs.Rows.{Known, two-code, three-code, four-code, Four, by_rows}
 use Rattle.chars.proofs.Decoding.{decode-cons}
@@ -27,44 +25,44 @@ is_within x l h a b = rw (le-leb l x a, le-leb x h b)
 
 -- a step's code point stands first
 module _ (code : ℕ) (l : List ℕ) where
-  after_two : (a b : ℕ) → step a b (get_or l 0 0) (get_or l 1 0) ≡ Point code 1 → decode (a ∷ b ∷ l) ≡ follows code (decode l)
+  after_two : (a b : ℕ) → step a b (get_or l 0 0) (get_or l 1 0) ≡ point code 1 → decode (a ∷ b ∷ l) ≡ follows code (decode l)
   unfolding step_at
   after_two a b e = decode-cons a (b ∷ l) ∙ ap (λ (s : Step). and_then s (λ (n : ℕ). decode (drop n (b ∷ l)))) e
 
-  after-three : (a b c : ℕ) → step a b c (get_or l 0 0) ≡ Point code 2 → decode (a ∷ b ∷ c ∷ l) ≡ follows code (decode l)
+  after-three : (a b c : ℕ) → step a b c (get_or l 0 0) ≡ point code 2 → decode (a ∷ b ∷ c ∷ l) ≡ follows code (decode l)
   unfolding step_at
   after-three a b c e = decode-cons a (b ∷ c ∷ l) ∙ ap (λ (s : Step). and_then s (λ (n : ℕ). decode (drop n (b ∷ c ∷ l)))) e
 
-  after-four : (a b c d : ℕ) → step a b c d ≡ Point code 3 → decode (a ∷ b ∷ c ∷ d ∷ l) ≡ follows code (decode l)
+  after-four : (a b c d : ℕ) → step a b c d ≡ point code 3 → decode (a ∷ b ∷ c ∷ d ∷ l) ≡ follows code (decode l)
   unfolding step_at
   after-four a b c d e = decode-cons a (b ∷ c ∷ d ∷ l) ∙ ap (λ (s : Step). and_then s (λ (n : ℕ). decode (drop n (b ∷ c ∷ d ∷ l)))) e
 
 -- ---- the row of each range of code points
 
-two-point : (code a b c d : ℕ) → 0xC2 ≤ a → a ≤ 0xDF → 0x80 ≤ b → b ≤ 0xBF → code ≡ (a - 0xC0) * 64 + (b - 0x80) → step a b c d ≡ Point code 1
+two-point : (code a b c d : ℕ) → 0xC2 ≤ a → a ≤ 0xDF → 0x80 ≤ b → b ≤ 0xBF → code ≡ (a - 0xC0) * 64 + (b - 0x80) → step a b c d ≡ point code 1
 unfolding two
-two-point code a b c d a₀ a₁ b₀ b₁ e = sym (by_row 0xC2 0xDF 1 a b c d (Point code 1) a₀ a₁ refl spelled)
+two-point code a b c d a₀ a₁ b₀ b₁ e = sym (by_row 0xC2 0xDF 1 a b c d (point code 1) a₀ a₁ refl spelled)
   where
-    spelled : Point code 1 ≡ two a b
+    spelled : point code 1 ≡ two a b
     spelled = rw (is_within b 0x80 0xBF b₀ b₁, e)
 
 -- row k, the first byte within x and y, the second within l and h
 module _ (x y k l h code a b c d : ℕ) where
   three-point : (x ≤ a) × (a ≤ y) × (l ≤ b) × (b ≤ h) × (0x80 ≤ c) × (c ≤ 0xBF) × (code ≡ ((a - 0xE0) * 64 + (b - 0x80)) * 64 + (c - 0x80))
-      → stands x y k (rows a b c d) ≡ true → three (l, h) a b c ≡ row_step k (rows a b c d) → step a b c d ≡ Point code 2
+      → stands x y k (rows a b c d) ≡ true → three (l, h) a b c ≡ row_step k (rows a b c d) → step a b c d ≡ point code 2
   unfolding three
-  three-point f s r = sym (by_row x y k a b c d (Point code 2) f.0 f.1 s (spelled ∙ r))
+  three-point f s r = sym (by_row x y k a b c d (point code 2) f.0 f.1 s (spelled ∙ r))
     where
-      spelled : Point code 2 ≡ three (l, h) a b c
+      spelled : point code 2 ≡ three (l, h) a b c
       spelled = rw (is_within b l h f.2 f.3, is_within c 0x80 0xBF f.4 f.5, f.6)
 
   four-point : (x ≤ a) × (a ≤ y) × (l ≤ b) × (b ≤ h) × (0x80 ≤ c) × (c ≤ 0xBF) × (0x80 ≤ d) × (d ≤ 0xBF)
       × (code ≡ (((a - 0xF0) * 64 + (b - 0x80)) * 64 + (c - 0x80)) * 64 + (d - 0x80))
-      → stands x y k (rows a b c d) ≡ true → four (l, h) a b c d ≡ row_step k (rows a b c d) → step a b c d ≡ Point code 3
+      → stands x y k (rows a b c d) ≡ true → four (l, h) a b c d ≡ row_step k (rows a b c d) → step a b c d ≡ point code 3
   unfolding four
-  four-point f s r = sym (by_row x y k a b c d (Point code 3) f.0 f.1 s (spelled ∙ r))
+  four-point f s r = sym (by_row x y k a b c d (point code 3) f.0 f.1 s (spelled ∙ r))
     where
-      spelled : Point code 3 ≡ four (l, h) a b c d
+      spelled : point code 3 ≡ four (l, h) a b c d
       spelled = rw (is_within b l h f.2 f.3, is_within c 0x80 0xBF f.4 f.5, is_within d 0x80 0xBF f.6 f.7, f.8)
 
 module _ (c : ℕ) (l : List ℕ) where
@@ -82,7 +80,7 @@ module _ (c : ℕ) (l : List ℕ) where
       (after_two c l (0xC0 + c / 64) (0x80 + c % 64) (two-point c _ _ _ _ (omega arith) (omega arith) (omega arith) (omega arith) (omega arith)))
 
   three-step : ℕ → Type 0
-  three-step d = step (0xE0 + c / 64 / 64) (0x80 + c / 64 % 64) (0x80 + c % 64) d ≡ Point c 2
+  three-step d = step (0xE0 + c / 64 / 64) (0x80 + c / 64 % 64) (0x80 + c % 64) d ≡ point c 2
 
   back-three : 0x800 ≤ c → c < 0x10000 → three-step (get_or l 0 0) → Back
   unfolding Back encode three-step
@@ -100,7 +98,7 @@ module _ (c : ℕ) (l : List ℕ) where
       go (no p) (no q) (inr s) = three-point 0xEE 0xEF 5 0x80 0xBF c _ _ _ d (omega arith) refl refl
 
   four-step : Type 0
-  four-step = step (0xF0 + c / 64 / 64 / 64) (0x80 + c / 64 / 64 % 64) (0x80 + c / 64 % 64) (0x80 + c % 64) ≡ Point c 3
+  four-step = step (0xF0 + c / 64 / 64 / 64) (0x80 + c / 64 / 64 % 64) (0x80 + c / 64 % 64) (0x80 + c % 64) ≡ point c 3
 
   back-four : 0x10000 ≤ c → four-step → Back
   unfolding Back encode four-step
@@ -216,9 +214,9 @@ encoded-at a b = encoded a (get_or b 0 0) (get_or b 1 0) (get_or b 2 0)
 
 -- of lists up to a length
 abbrev Unique : ℕ → Type 0
-Unique n = (b l : List ℕ) → length b ≤ n → decode b ≡ some l → joined encode l ≡ b
+Unique n = (b l : List ℕ) → length b ≤ n → decode b ≡ Some l → joined encode l ≡ b
 
-no_bytes : (l : List ℕ) → decode [] ≡ some l → joined encode l ≡ []
+no_bytes : (l : List ℕ) → decode [] ≡ Some l → joined encode l ≡ []
 unfolding decode
 no_bytes l e =
     let q : l ≡ [] = cc in
@@ -228,23 +226,23 @@ longer : (n : ℕ) → Unique n → Unique (suc n)
 longer n shorter [] l h e = no_bytes l e
 longer n shorter (a ∷ b) l h e = go (step_at (a ∷ b) 0) (encoded-at a b) (sym (decode-cons a b) ∙ e) (λ m k. shorter (drop m b) k (simp length-drop (omega arith)))
   where
-    go : (s : Step) → Known (Encoded a (get_or b 0 0) (get_or b 1 0) (get_or b 2 0)) s → and_then s (λ (m : ℕ). decode (drop m b)) ≡ some l
-        → ((m : ℕ) (k : List ℕ) → decode (drop m b) ≡ some k → joined encode k ≡ drop m b) → joined encode l ≡ a ∷ b
-    go Bad k f ih =
+    go : (s : Step) → Known (Encoded a (get_or b 0 0) (get_or b 1 0) (get_or b 2 0)) s → and_then s (λ (m : ℕ). decode (drop m b)) ≡ Some l
+        → ((m : ℕ) (k : List ℕ) → decode (drop m b) ≡ Some k → joined encode k ≡ drop m b) → joined encode l ≡ a ∷ b
+    go None k f ih =
         let z : ◌≡◌ {A = ℕ} 0 1 = cc in
         absurd (omega arith)
-    go (Point code more) k f ih = past (decode (drop more b)) f (ih more)
+    go (Some p) k f ih = past (decode (drop p.more b)) f (ih p.more)
       where
-        past : (o : Option (List ℕ)) → follows code o ≡ some l → ((m : List ℕ) → o ≡ some m → joined encode m ≡ drop more b) → joined encode l ≡ a ∷ b
-        past none f ih =
+        past : (o : Option (List ℕ)) → follows p.code o ≡ Some l → ((m : List ℕ) → o ≡ Some m → joined encode m ≡ drop p.more b) → joined encode l ≡ a ∷ b
+        past None f ih =
             let z : ◌≡◌ {A = ℕ} 0 1 = cc in
             absurd (omega arith)
-        past (some m) f ih =
-            let q : l ≡ code ∷ m = cc in
+        past (Some m) f ih =
+            let q : l ≡ p.code ∷ m = cc in
             ap (joined encode) q
-            ∙ ap (λ (r : List ℕ). r ++ joined encode m) (k.bytes ∙ ap (λ (r : List ℕ). a ∷ r) (there more k.few b k.tails))
-            ∙ ap (λ (r : List ℕ). a ∷ (take more b ++ r)) (ih m refl)
-            ∙ ap (λ (r : List ℕ). a ∷ r) (take-append-drop more b)
+            ∙ ap (λ (r : List ℕ). r ++ joined encode m) (k.bytes ∙ ap (λ (r : List ℕ). a ∷ r) (there p.more k.few b k.tails))
+            ∙ ap (λ (r : List ℕ). a ∷ (take p.more b ++ r)) (ih m refl)
+            ∙ ap (λ (r : List ℕ). a ∷ r) (take-append-drop p.more b)
 
 shortest : Unique 0
 shortest [] l h e = no_bytes l e
@@ -255,5 +253,5 @@ unique zero = shortest
 unique (suc n) = longer n (unique n)
 
 -- bytes that spell a text are the bytes of its code points
-pub encode-decode : (b l : List ℕ) → decode b ≡ some l → joined encode l ≡ b
+pub encode-decode : (b l : List ℕ) → decode b ≡ Some l → joined encode l ≡ b
 encode-decode b l e = unique (length b) b l (omega arith) e

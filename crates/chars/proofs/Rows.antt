@@ -5,15 +5,14 @@ use mathlib.Core.Bool.{Bool, true, false, ◌&&◌, cond}
 use mathlib.Core.Logic.{◌⊎◌, inl, inr}
 use Prim.Native.Nat.{ℕ, ◌+◌, ◌-◌, ◌*◌, ◌≤◌, ◌<◌}
 use native.Mathlib.Omega.{arith}
-use Rattle.chars.specs.declared.Step.{Step}
-use Rattle.chars.specs.declared.Step.TheVariants.{Point, Bad}
+use Rattle.std.specs.Prelude.{Some, None}
 use Rattle.chars.specs.Productions.{within}
-use Rattle.chars.specs.Utf8.{is_tail, two, three, four, step}
+use Rattle.chars.specs.Utf8.{Step, point, is_tail, two, three, four, step}
 use Rattle.chars.proofs.Steps.{bounds}
 
 abbrev pub Known : (ℕ → ℕ → Type 0) → Step → Type 0
-Known P (Point code more) = P code more
-Known P Bad = Unit {0}
+Known P (Some p) = P p.code p.more
+Known P None = Unit {0}
 
 choose : (P : ℕ → ℕ → Type 0) (w : Bool) (s t : Step) → (w ≡ true → Known P s) → Known P t → Known P (cond w s t)
 choose P true s t f g = f refl
@@ -60,7 +59,7 @@ module _ (a b c d : ℕ) (P : ℕ → ℕ → Type 0) where
   unfolding three
   known-three l h g f = go (within b (l, h)) (is_tail c) refl refl
     where
-      go : (s t : Bool) → within b (l, h) ≡ s → is_tail c ≡ t → Known P (cond (s && t) (Point (three-code a b c) 2) Bad)
+      go : (s t : Bool) → within b (l, h) ≡ s → is_tail c ≡ t → Known P (cond (s && t) (point (three-code a b c) 2) None)
       go true true es et = f (g (bounds b l h (within b (l, h)) refl es) (bounds c 0x80 0xBF (is_tail c) refl et))
       go true false es et = tt
       go false t es et = tt
@@ -71,7 +70,7 @@ module _ (a b c d : ℕ) (P : ℕ → ℕ → Type 0) where
   unfolding four
   known-four l h g f = go (within b (l, h)) (is_tail c) (is_tail d) refl refl refl
     where
-      go : (s t u : Bool) → within b (l, h) ≡ s → is_tail c ≡ t → is_tail d ≡ u → Known P (cond (s && (t && u)) (Point (four-code a b c d) 3) Bad)
+      go : (s t u : Bool) → within b (l, h) ≡ s → is_tail c ≡ t → is_tail d ≡ u → Known P (cond (s && (t && u)) (point (four-code a b c d) 3) None)
       go true true true es et eu =
           f (g (bounds b l h (within b (l, h)) refl es) (bounds c 0x80 0xBF (is_tail c) refl et) (bounds d 0x80 0xBF (is_tail d) refl eu))
       go true true false es et eu = tt

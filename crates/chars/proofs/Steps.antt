@@ -1,16 +1,15 @@
 -- Laws of one step of decoding.
 -- Assumes nothing.
 use mathlib.Core.Path.{◌≡◌, refl, sym, ◌∙◌}
-use mathlib.Core.Bool.{Bool, true, false, not, ◌&&◌, ◌||◌, cond, false≢true}
+use mathlib.Core.Bool.{Bool, true, false, ◌&&◌, ◌||◌, cond, false≢true}
 use mathlib.Core.List.{List, [], ◌∷◌}
-use Prim.Native.Nat.{ℕ, zero, suc, ◌+◌, ◌-◌, ◌*◌, ◌≤◌}
+use Prim.Native.Nat.{ℕ, zero, suc, ◌+◌, ◌≤◌}
 use lib.Dec.{leb, ltb}
 use lib.ListN.{get_or}
-use borrow.Author.Tests.{leb-true, not-true, not-false}
-use Rattle.chars.specs.declared.Step.{Step}
-use Rattle.chars.specs.declared.Step.TheVariants.{Point, Bad}
+use borrow.Author.Tests.{leb-true}
+use Rattle.std.specs.Prelude.{None}
 use Rattle.chars.specs.Productions.{within}
-use Rattle.chars.specs.Utf8.{is_tail, two, three, four, select, rows, step, step_at}
+use Rattle.chars.specs.Utf8.{Step, select, rows, step, step_at}
 use Rattle.chars.proofs.Ranges.{inside, outside}
 
 -- what a test of a range tells
@@ -33,51 +32,6 @@ high x a b = go (leb a x) refl
 pub bounds : (x a b : ℕ) (s : Bool) → s ≡ within x (a, b) → s ≡ true → (a ≤ x) × (x ≤ b)
 bounds x a b s e y = (low x a b (sym e ∙ y), high x a b (sym e ∙ y))
 
--- ---- sequences of two, three and four bytes, in the order of the tests
-
-module _ (a b : ℕ) (s : Bool) (es : s ≡ is_tail b) where
-  pub two-yes : s ≡ true → (p : ℕ) → p ≡ (a - 0xC0) * 64 + (b - 0x80) → Point p 1 ≡ two a b
-  unfolding two
-  two-yes y p e = rw (sym es ∙ y, e)
-
-  pub two-no : s ≡ false → Bad ≡ two a b
-  unfolding two
-  two-no n = rw (sym es ∙ n)
-
-module _ (l h a b c : ℕ) (s : Bool) (es : s ≡ within b (l, h)) where
-  pub three-no-second : not s ≡ true → Bad ≡ three (l, h) a b c
-  unfolding three
-  three-no-second n = rw (sym es ∙ not-true s n)
-
-  module _ (y : not s ≡ false) (t : Bool) (et : t ≡ is_tail c) where
-    pub three-no-third : not t ≡ true → Bad ≡ three (l, h) a b c
-    unfolding three
-    three-no-third n = rw (sym es ∙ not-false s y, sym et ∙ not-true t n)
-
-    pub three-yes : not t ≡ false → (p q : ℕ) → p ≡ (a - 0xE0) * 64 + (b - 0x80) → q ≡ p * 64 + (c - 0x80) → Point q 2 ≡ three (l, h) a b c
-    unfolding three
-    three-yes z p q e f = rw (sym es ∙ not-false s y, sym et ∙ not-false t z, f, e)
-
-module _ (l h a b c d : ℕ) (s : Bool) (es : s ≡ within b (l, h)) where
-  pub four-no-second : not s ≡ true → Bad ≡ four (l, h) a b c d
-  unfolding four
-  four-no-second n = rw (sym es ∙ not-true s n)
-
-  module _ (y : not s ≡ false) (t : Bool) (et : t ≡ is_tail c) where
-    pub four-no-third : not t ≡ true → Bad ≡ four (l, h) a b c d
-    unfolding four
-    four-no-third n = rw (sym es ∙ not-false s y, sym et ∙ not-true t n)
-
-    module _ (z : not t ≡ false) (u : Bool) (eu : u ≡ is_tail d) where
-      pub four-no-fourth : not u ≡ true → Bad ≡ four (l, h) a b c d
-      unfolding four
-      four-no-fourth n = rw (sym es ∙ not-false s y, sym et ∙ not-false t z, sym eu ∙ not-true u n)
-
-      pub four-yes : not u ≡ false → (p q r : ℕ) → p ≡ (a - 0xF0) * 64 + (b - 0x80) → q ≡ p * 64 + (c - 0x80) → r ≡ q * 64 + (d - 0x80)
-          → Point r 3 ≡ four (l, h) a b c d
-      unfolding four
-      four-yes w p q r e f g = rw (sym es ∙ not-false s y, sym et ∙ not-false t z, sym eu ∙ not-false u w, g, f, e)
-
 -- ---- the row of the first byte
 
 -- an interval of the first byte lies in the range of row k and meets none of the ranges before
@@ -87,7 +41,7 @@ stands x y zero (row ∷ rs) = leb row.0.0 x && leb y row.0.1
 stands x y (suc k) (row ∷ rs) = (ltb y row.0.0 || ltb row.0.1 x) && stands x y k rs
 
 abbrev pub row_step : ℕ → List ((ℕ × ℕ) × Step) → Step
-row_step k [] = Bad
+row_step k [] = None
 row_step zero (row ∷ rs) = row.1
 row_step (suc k) (row ∷ rs) = row_step k rs
 

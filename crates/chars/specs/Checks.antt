@@ -1,22 +1,31 @@
 -- What names, texts, comments, processing instructions, prefixes and URIs may be, over code points and through UTF-8 over bytes.
 -- Where names are tested the class function is the first argument.
-use Rattle.std.specs.Prelude.{Bool, true, false, not, ◌&&◌, ◌||◌, cond, List, [], ◌∷◌, map, ℕ, ◌+◌, eqb}
-use Rattle.std.proofs.Math.Option.{Option, none, some}
+use Rattle.std.specs.Prelude.{Bool, true, false, not, ◌&&◌, ◌||◌, cond, List, [], ◌∷◌, map, ℕ, ◌+◌, eqb, Option, None, Some, Result, Ok, Err}
 use Prim.Native.Char.{code}
 use Prim.Native.String.{String, [] as ε, ◌∷◌ as ◌▸◌}
 use Rattle.words.specs.Lists.{all}
-use Rattle.chars.specs.declared.Check.{Check}
-use Rattle.chars.specs.declared.Check.TheVariants.{Passed, NotUtf8, InvalidName, InvalidText}
+use Rattle.chars.specs.declared.Fault.{Fault}
+use Rattle.chars.specs.declared.Fault.TheVariants.{NotUtf8, InvalidName, InvalidText}
 use Rattle.chars.specs.Productions.{within, is_char, is_char11}
 use Rattle.chars.specs.Classes.{is_nc_name}
 use Rattle.chars.specs.Utf8.{decode}
 
+-- what a check answers: that the text passed, or why not
+abbrev pub Check : Type 0
+Check = Result (Unit {0}) Fault
+
+abbrev pub passed : Check
+passed = Ok tt
+
+abbrev pub refused : Fault → Check
+refused why = Err why
+
 -- "1 NotUtf8", "2 InvalidName, 3 InvalidText: as in names.rs"; 0 where nothing is refused
 abbrev pub number_of : Check → ℕ
-number_of Passed = 0
-number_of NotUtf8 = 1
-number_of InvalidName = 2
-number_of InvalidText = 3
+number_of (Ok u) = 0
+number_of (Err NotUtf8) = 1
+number_of (Err InvalidName) = 2
+number_of (Err InvalidText) = 3
 
 -- a quoted text as its code points, which for ASCII are its bytes
 abbrev pub quoted : String → List ℕ
@@ -44,10 +53,8 @@ ends_with a (x ∷ y ∷ l) = ends_with a (y ∷ l)
 -- a second test where the first passed, as the Rust's `?`
 infixl 5 ◌then◌
 abbrev pub ◌then◌ : Check → Check → Check
-Passed then k = k
-NotUtf8 then k = NotUtf8
-InvalidName then k = InvalidName
-InvalidText then k = InvalidText
+(Ok u) then k = k
+(Err why) then k = Err why
 
 -- "A prefix is empty, or an NCName other than "xml" and "xmlns""
 abbrev pub is_empty : List ℕ → Bool
@@ -58,22 +65,22 @@ unfoldable pub is_xmlns : List ℕ → Bool
 is_xmlns l = spells (quoted "xmlns") l
 
 unfoldable pub check_prefix : (ℕ → ℕ) → List ℕ → Check
-check_prefix class l = cond (is_empty l || (is_nc_name class l && (not (spells (quoted "xml") l) && not (is_xmlns l)))) Passed InvalidName
+check_prefix class l = cond (is_empty l || (is_nc_name class l && (not (spells (quoted "xml") l) && not (is_xmlns l)))) passed (refused InvalidName)
 
 -- "Text, attribute values and URIs take XML 1.1 Char"
 unfoldable pub check_text : List ℕ → Check
-check_text l = cond (all is_char11 l) Passed InvalidText
+check_text l = cond (all is_char11 l) passed (refused InvalidText)
 
 -- "Comment and PI data take XML 1.0 Char without U+000D"
 unfoldable pub is_literal : ℕ → Bool
 is_literal c = not (eqb c 0xD) && is_char c
 
 unfoldable pub check_literal : List ℕ → Check
-check_literal l = cond (all is_literal l) Passed InvalidText
+check_literal l = cond (all is_literal l) passed (refused InvalidText)
 
 -- "no "--" or final "-" in a comment"
 unfoldable pub check_comment : List ℕ → Check
-check_comment l = check_literal l then cond (contains 0x2D 0x2D l || ends_with 0x2D l) InvalidText Passed
+check_comment l = check_literal l then cond (contains 0x2D 0x2D l || ends_with 0x2D l) (refused InvalidText) passed
 
 -- ""xml" in any ASCII case"
 abbrev pub lower : ℕ → ℕ
@@ -85,8 +92,8 @@ is_xml l = spells (quoted "xml") (map lower l)
 -- "A PI target is an NCName other than "xml" in any ASCII case", "no "?>" in PI data"
 unfoldable pub check_pi : (ℕ → ℕ) → List ℕ → List ℕ → Check
 check_pi class target data' =
-    cond (not (is_nc_name class target) || is_xml target) InvalidName
-    (check_literal data' then cond (contains 0x3F 0x3E data') InvalidText Passed)
+    cond (not (is_nc_name class target) || is_xml target) (refused InvalidName)
+    (check_literal data' then cond (contains 0x3F 0x3E data') (refused InvalidText) passed)
 
 -- "A URI "http://www.w3.org/2000/xmlns/" is InvalidName; declaring "http://www.w3.org/XML/1998/namespace" too"
 abbrev pub xmlns_uri : List ℕ
@@ -96,10 +103,10 @@ abbrev pub xml_uri : List ℕ
 xml_uri = quoted "http://www.w3.org/XML/1998/namespace"
 
 unfoldable pub check_namespace : List ℕ → Check
-check_namespace l = check_text l then cond (spells xmlns_uri l) InvalidName Passed
+check_namespace l = check_text l then cond (spells xmlns_uri l) (refused InvalidName) passed
 
 unfoldable pub check_namespace_binding : List ℕ → Check
-check_namespace_binding l = check_namespace l then cond (spells xml_uri l) InvalidName Passed
+check_namespace_binding l = check_namespace l then cond (spells xml_uri l) (refused InvalidName) passed
 
 -- "Text under the Root is space, tab, newline only, or empty"
 unfoldable pub is_space : ℕ → Bool
@@ -112,8 +119,8 @@ is_white_space l = all is_space l
 
 -- "1 NotUtf8: a byte argument isn't UTF-8", before the other checks
 abbrev pub checked : (List ℕ → Check) → Option (List ℕ) → Check
-checked check none = NotUtf8
-checked check (some l) = check l
+checked check None = refused NotUtf8
+checked check (Some l) = check l
 
 unfoldable pub on_text : (List ℕ → Check) → List ℕ → Check
 on_text check bytes = checked check (decode bytes)
@@ -123,8 +130,8 @@ on_texts check first second = on_text (λ (a : List ℕ). on_text (check a) seco
 
 -- a test of the text that the bytes spell, false where they spell none
 abbrev pub tested : (List ℕ → Bool) → Option (List ℕ) → Bool
-tested test none = false
-tested test (some l) = test l
+tested test None = false
+tested test (Some l) = test l
 
 unfoldable pub of_text : (List ℕ → Bool) → List ℕ → Bool
 of_text test bytes = tested test (decode bytes)

@@ -1,14 +1,10 @@
 -- How the code reads a text: one pass over its code points by a rule that keeps a state. No public contract cites these.
-use Rattle.std.specs.Prelude.{Bool, true, false, not, ◌&&◌, cond, List, [], ◌∷◌, ℕ, eqb}
-use Rattle.std.proofs.Math.Option.{Option, none, some}
-use Rattle.chars.specs.declared.Check.{Check}
-use Rattle.chars.specs.declared.Check.TheVariants.{Passed, NotUtf8, InvalidName, InvalidText}
+use Rattle.std.specs.Prelude.{Bool, true, false, not, ◌&&◌, cond, List, [], ◌∷◌, ℕ, eqb, Option, None, Some, Result, Ok, Err}
+use Rattle.chars.specs.declared.NotUtf8.{NotUtf8}
 use Rattle.chars.specs.declared.Rule.{Rule}
 use Rattle.chars.specs.declared.Rule.TheVariants.{Utf8, Text, Literal, Comment, PiData, Name, WhiteSpace}
 use Rattle.chars.specs.declared.State.{State}
 use Rattle.chars.specs.declared.State.TheVariants.{Start, Inside, Mark, Failed}
-use Rattle.chars.specs.declared.Verdict.{Verdict}
-use Rattle.chars.specs.declared.Verdict.TheVariants.{Holds, Fails, NotText}
 use Rattle.chars.specs.Productions.{is_char11}
 use Rattle.chars.specs.Classes.{class_of}
 use Rattle.chars.specs.Checks.{is_literal, is_space}
@@ -88,29 +84,10 @@ may_end rule Inside = true
 may_end rule Mark = not (is_comment rule)
 may_end rule Failed = false
 
+-- what reading a text by a rule finds: whether the rule holds of it, or that it is none
+abbrev pub Verdict : Type 0
+Verdict = Result Bool NotUtf8
+
 unfoldable pub verdict_after : Rule → State → Option (List ℕ) → Verdict
-verdict_after rule s none = NotText
-verdict_after rule s (some l) = cond (may_end rule (run rule s l)) Holds Fails
-
--- ---- what the checks make of a verdict
-
-abbrev pub is_holds : Verdict → Bool
-is_holds Holds = true
-is_holds Fails = false
-is_holds NotText = false
-
-abbrev pub is_text : Verdict → Bool
-is_text Holds = true
-is_text Fails = true
-is_text NotText = false
-
-abbrev pub text_check : Verdict → Check
-text_check Holds = Passed
-text_check Fails = InvalidText
-text_check NotText = NotUtf8
-
--- a name by its verdict, refused besides where it is reserved
-abbrev pub name_check : Verdict → Bool → Check
-name_check Holds reserved = cond reserved InvalidName Passed
-name_check Fails reserved = InvalidName
-name_check NotText reserved = NotUtf8
+verdict_after rule s None = Err (record {})
+verdict_after rule s (Some l) = Ok (may_end rule (run rule s l))

@@ -13,6 +13,7 @@ fn class_in_table(c: usize) -> u8
 }
 
 // The class of a code point from 2,048 on, by the ranges of NameStartChar and NameChar.
+#[tactic(auto, unfolding(chars::specs::Productions::within, chars::specs::Productions::is_name_start_char, chars::specs::Productions::is_name_char, chars::specs::Classes::class_of))]
 fn class_in_ranges(c: u32) -> u8
     requires { 2048 ≤ c }
     ensures { result ≡ class_of c }
@@ -32,6 +33,7 @@ fn class_in_ranges(c: u32) -> u8
 }
 
 // The class of a code point.
+// Stays: a named form of 01, the array of 2,048 classes, which holds the numbers of the definition.
 pub fn class_of(c: u32) -> u8
     ensures { result ≡ class_of c }
 {

@@ -1,8 +1,9 @@
 -- A move that the document accepts is one that the plain tree makes.
 -- Assumes nothing.
+use Rattle.std.proofs.lemmas.Option.{none-some, same_Some}
+use Rattle.std.specs.Prelude.{Option, None, Some}
 use mathlib.Core.Path.{◌≡◌, sym, ap, ◌∙◌}
 use mathlib.Core.Bool.{true, false}
-use mathlib.Core.Option.{Option, none, some, none-ne-some, some-injective}
 use Prim.Native.Nat.{ℕ}
 use native.Mathlib.Omega.{arith}
 use lib.ListN.{length}
@@ -26,14 +27,14 @@ use Rattle.edits.proofs.Accepted.{checked-room}
 pub record Goes (t : Tree) (hs : ℕ → ℕ) (p : ℕ) (at : Option ℕ) (c : ℕ) : Type 0 where
   pub child : ℕ
   pub parent : ℕ
-  pub is_child : means t hs c ≡ some child
-  pub is_parent : means t hs p ≡ some parent
+  pub is_child : means t hs c ≡ Some child
+  pub is_parent : means t hs p ≡ Some parent
   pub listed : which_of (t.kind child) ≡ children
   pub went : (tree.move_to t (means t hs p) at (means t hs c)).tree ≡ moved t parent at child
 
 module _ (d : Doc) (t : Tree) (hs : ℕ → ℕ) (S : Sim d t hs) (W : WF t) where
   abbrev check : View → View → ℕ → ℕ → ℕ
-  check node parent p c = check_move node parent (on_path (length d.gens) d c p) (root_taken d (some c))
+  check node parent p c = check_move node parent (on_path (length d.gens) d c p) (root_taken d (Some c))
 
   checked : (at : Option ℕ) (p c : ℕ) → is_refusal (move_to d p at c).answer ≡ false → check (view_at d c) (view_at d p) p c ≡ 0
   checked at p c f = (checked-room (check (view_at d c) (view_at d p) p c) (room_fits (unhook d c) children p) d _ f).0
@@ -41,7 +42,7 @@ module _ (d : Doc) (t : Tree) (hs : ℕ → ℕ) (S : Sim d t hs) (W : WF t) whe
   both-live : (at : Option ℕ) (c p : ℕ) → t.live c ≡ true → t.live p ≡ true → is_refusal (move_to d (hs p) at (hs c)).answer ≡ false
       → Goes t hs (hs p) at (hs c)
   both-live at c p lc lp f =
-      let z : check_move (some (t.kind c)) (some (t.kind p)) (above t.births t.parent c p) (other_than (root_element t) (some c)) ≡ 0 =
+      let z : check_move (Some (t.kind c)) (Some (t.kind p)) (above t.births t.parent c p) (other_than (root_element t) (Some c)) ≡ 0 =
       sym (rw (view-live d t hs S W c lc, view-live d t hs S W p lp, cycle-agrees S W c p lc lp, taken-by-other d t hs S W c lc)) ∙ checked at (hs p) (hs c) f in
       record {
         child = c;
@@ -60,7 +61,7 @@ module _ (d : Doc) (t : Tree) (hs : ℕ → ℕ) (S : Sim d t hs) (W : WF t) whe
     where
       stale-parent : (p : ℕ) → resolves d p ≡ false → is_refusal (move_to d p at (hs c)).answer ≡ false → ⊥
       stale-parent p r f =
-          let z : check_move (some (t.kind c)) none (on_path (length d.gens) d (hs c) p) (root_taken d (some (hs c))) ≡ 0 =
+          let z : check_move (Some (t.kind c)) None (on_path (length d.gens) d (hs c) p) (root_taken d (Some (hs c))) ≡ 0 =
           sym (rw (view-live d t hs S W c lc, r)) ∙ checked at p (hs c) f in
           stale-refused (child_kind (t.kind c)) z
 
@@ -68,11 +69,11 @@ module _ (d : Doc) (t : Tree) (hs : ℕ → ℕ) (S : Sim d t hs) (W : WF t) whe
   goes at p =
       by-handle d t hs S (λ c. is_refusal (move_to d p at c).answer ≡ false → Goes t hs p at c)
       (λ c lc f. child-lives at c lc p f)
-      (λ c m r f. let z : check none (view_at d p) p c ≡ 0 = sym (rw r) ∙ checked at p c f in absurd (omega arith))
+      (λ c m r f. let z : check None (view_at d p) p c ≡ 0 = sym (rw r) ∙ checked at p c f in absurd (omega arith))
 
   -- the birth that a handle means lives, and has it
-  pub meant : (h b : ℕ) → means t hs h ≡ some b → (t.live b ≡ true) × (hs b ≡ h)
+  pub meant : (h b : ℕ) → means t hs h ≡ Some b → (t.live b ≡ true) × (hs b ≡ h)
   meant =
-      by-handle d t hs S (λ h. (b : ℕ) → means t hs h ≡ some b → (t.live b ≡ true) × (hs b ≡ h))
-      (λ a la b e. let q : a ≡ b = some-injective a b (sym (means-live d t hs S a la) ∙ e) in (ap t.live (sym q) ∙ la, ap hs (sym q)))
-      (λ h m r b e. absurd (none-ne-some b (sym m ∙ e)))
+      by-handle d t hs S (λ h. (b : ℕ) → means t hs h ≡ Some b → (t.live b ≡ true) × (hs b ≡ h))
+      (λ a la b e. let q : a ≡ b = same_Some a b (sym (means-live d t hs S a la) ∙ e) in (ap t.live (sym q) ∙ la, ap hs (sym q)))
+      (λ h m r b e. absurd (none-some b (sym m ∙ e)))

@@ -1,9 +1,10 @@
 -- Two moves of different nodes commute on the plain tree, where no parent is left or entered by both.
 -- Assumes nothing.
+use Rattle.std.proofs.lemmas.Option.{none-some, same_Some}
+use Rattle.std.specs.Prelude.{Option, None, Some}
 use mathlib.Core.Path.{◌≡◌, refl, sym, ap, ◌∙◌, fun_ext}
 use mathlib.Core.Logic.{◌≢◌, ◌⊎◌, inl, inr}
 use mathlib.Core.Bool.{false}
-use mathlib.Core.Option.{Option, none, some, none-ne-some, some-injective}
 use mathlib.Core.List.{List}
 use Prim.Native.Nat.{ℕ}
 use native.Mathlib.Decide.{ℕ_discrete}
@@ -15,11 +16,11 @@ use Rattle.commuting.proofs.Moved.{left, across, lists_after, shifted, moved_tol
 
 -- x is the parent that a move leaves, or the one that it enters
 abbrev pub Touched : Option ℕ → ℕ → ℕ → Type 0
-Touched o p x = (o ≡ some x) ⊎ (p ≡ x)
+Touched o p x = (o ≡ Some x) ⊎ (p ≡ x)
 
-left_other : (o : Option ℕ) (c x : ℕ) (l : List ℕ) → (o ≢ some x) → left o c x l ≡ l
-left_other none c x l n = refl
-left_other (some q) c x l n = rw (ne_eqb x q (λ e. n (ap {B = Option ℕ} some (sym e))))
+left_other : (o : Option ℕ) (c x : ℕ) (l : List ℕ) → (o ≢ Some x) → left o c x l ≡ l
+left_other None c x l n = refl
+left_other (Some q) c x l n = rw (ne_eqb x q (λ e. n (ap {B = Option ℕ} Some (sym e))))
 
 across-other : (o : Option ℕ) (p : ℕ) (at : Option ℕ) (c x : ℕ) (l : List ℕ) → (Touched o p x → ⊥) → across o p at c x l ≡ l
 across-other o p at c x l n = rw (ne_eqb x p (λ e. n (inr (sym e)))) (left_other o c x l (λ e. n (inl e)))
@@ -27,18 +28,18 @@ across-other o p at c x l n = rw (ne_eqb x p (λ e. n (inr (sym e)))) (left_othe
 touched-or-not : (o : Option ℕ) (p x : ℕ) → Touched o p x ⊎ (Touched o p x → ⊥)
 touched-or-not o p x = go o (ℕ_discrete p x)
   where
-    not-both : (o : Option ℕ) → (o ≢ some x) → (p ≢ x) → Touched o p x → ⊥
+    not-both : (o : Option ℕ) → (o ≢ Some x) → (p ≢ x) → Touched o p x → ⊥
     not-both o a b (inl e) = a e
     not-both o a b (inr e) = b e
 
-    in_some : (q : ℕ) → p ≢ x → Dec (q ≡ x) → Touched (some q) p x ⊎ (Touched (some q) p x → ⊥)
-    in_some q b (yes e) = inl (inl (ap {B = Option ℕ} some e))
-    in_some q b (no n) = inr (not-both (some q) (λ e. n (some-injective q x e)) b)
+    in_some : (q : ℕ) → p ≢ x → Dec (q ≡ x) → Touched (Some q) p x ⊎ (Touched (Some q) p x → ⊥)
+    in_some q b (yes e) = inl (inl (ap {B = Option ℕ} Some e))
+    in_some q b (no n) = inr (not-both (Some q) (λ e. n (same_Some q x e)) b)
 
     go : (o : Option ℕ) → Dec (p ≡ x) → Touched o p x ⊎ (Touched o p x → ⊥)
     go o (yes e) = inl (inr e)
-    go none (no n) = inr (not-both none (λ e. none-ne-some x e) n)
-    go (some q) (no n) = in_some q n (ℕ_discrete q x)
+    go None (no n) = inr (not-both None (λ e. none-some x e) n)
+    go (Some q) (no n) = in_some q n (ℕ_discrete q x)
 
 update_swap : {A : Type 0} (f : ℕ → A) (a b : ℕ) (u v : A) → a ≢ b → (x : ℕ) → update (update f a u) b v x ≡ update (update f b v) a u x
 update_swap f a b u v n x = go (ℕ_discrete x a) (ℕ_discrete x b)
@@ -71,10 +72,10 @@ module _ (t : Tree) (p q : ℕ) (at bt : Option ℕ) (a b : ℕ) (n : a ≢ b)
 
   -- a move changes the parent of no other node, so that each node leaves the parent that it had before both
   lists-swap : (w : Which) (x : ℕ)
-      → lists_after (lists_after t.lists a-from p at a) (update t.parent a (some p) b) q bt b w x
-      ≡ lists_after (lists_after t.lists b-from q bt b) (update t.parent b (some q) a) p at a w x
+      → lists_after (lists_after t.lists a-from p at a) (update t.parent a (Some p) b) q bt b w x
+      ≡ lists_after (lists_after t.lists b-from q bt b) (update t.parent b (Some q) a) p at a w x
   lists-swap children x =
-      rw (update_other t.parent a (some p) b (λ e. n (sym e)), update_other t.parent b (some q) a n) (list-swap x (t.lists children x))
+      rw (update_other t.parent a (Some p) b (λ e. n (sym e)), update_other t.parent b (Some q) a n) (list-swap x (t.lists children x))
   lists-swap attributes x = refl
   lists-swap namespaces x = refl
 
@@ -83,7 +84,7 @@ module _ (t : Tree) (p q : ℕ) (at bt : Option ℕ) (a b : ℕ) (n : a ≢ b)
     births = t.births;
     live = t.live;
     kind = t.kind;
-    parent = fun_ext (update_swap t.parent a b (some p) (some q) n) i;
+    parent = fun_ext (update_swap t.parent a b (Some p) (Some q) n) i;
     lists = fun_ext (λ w. fun_ext (λ x. lists-swap w x)) i;
     current = false;
   }

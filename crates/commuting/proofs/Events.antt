@@ -1,9 +1,9 @@
 -- What an accepted move, and an accepted renewal of the order, leave: over what the calls promise.
 -- Assumes nothing.
+use Rattle.std.specs.Prelude.{Option, None, Some}
 use mathlib.Core.Path.{◌≡◌, refl, sym, ap, ◌∙◌, subst}
 use mathlib.Core.Logic.{inl, inr}
 use mathlib.Core.Bool.{Bool, true, false, cond, true≢false}
-use mathlib.Core.Option.{Option, none, some}
 use mathlib.Core.List.{List}
 use Prim.Native.Nat.{ℕ}
 use native.Mathlib.Omega.{arith}
@@ -25,12 +25,12 @@ use Rattle.commuting.proofs.Slots.{SameSlots, moved_same, ordered_same}
 
 -- the call of a move, on the document and on the plain tree
 call-moves : (i : Option ℕ) (c p : ℕ) (d : Doc) → step (call_at i c p) d ≡ move_to d p i c
-call-moves none c p d = refl
-call-moves (some i) c p d = refl
+call-moves None c p d = refl
+call-moves (Some i) c p d = refl
 
 tree-moves : (i : Option ℕ) (c p : ℕ) (hs : ℕ → ℕ) (t : Tree) → tree.step (call_at i c p) hs t ≡ tree.move_to t (means t hs p) i (means t hs c)
-tree-moves none c p hs t = refl
-tree-moves (some i) c p hs t = refl
+tree-moves None c p hs t = refl
+tree-moves (Some i) c p hs t = refl
 
 module _ (hs : ℕ → ℕ) where
   module _ {d : Document} {mem : List ℕ} {t : Tree} (S : Stands hs d mem t) (e : Event) (p : Promised d mem e) (a : is_refusal e.answer ≡ false) where

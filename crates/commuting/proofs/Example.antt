@@ -8,12 +8,12 @@ use Prim.Native.Nat.{ℕ}
 use native.Mathlib.Omega.{arith}
 use lib.ListN.{length, replicate, drop, drop_of_length-le}
 use Rattle.model.specs.Doc.{limits_ok}
-use Rattle.model.specs.Calls.{document-order, done}
+use Rattle.model.specs.Calls.{document-order, done, Out, step}
 use Rattle.model.specs.Tree.{Tree, seed}
 use Rattle.layout.specs.declared.Limits as given
 use Rattle.layout.specs.Layout.{limits_of, document_words, scratch_words, memory_ok, buffers_ok}
-use Rattle.editing.specs.Contract.{scratch_after, Edits}
-use Rattle.editing.proofs.Editing.{edits}
+use Rattle.memory.specs.Decode.{decode}
+use Rattle.editing.specs.Contract.{outcome, scratch_after, Edits}
 use Rattle.tree.specs.Contract.{startable, Starts}
 use Rattle.tree.specs.Claim.{Event, Promised, PromisedBy, Called, tree_after, tree_end}
 use Rattle.tree.proofs.Startable.{start-done}
@@ -42,19 +42,22 @@ module _ {t : Tree} (b e : Event) (S : Standing b t) (s : Steps b e) where
   unfolding document_words
   past_end m q = ap (λ (l : given.Limits). drop (document_words (limits_of l)) m) s.limits.0 ∙ drop_of_length-le m {i = 80} (omega arith)
 
+  -- tests 4 and 5 are passed
+  went_on : outcome e.call b.document mem (length e.scratch) ≡ step e.call (decode b.document mem)
+  unfolding outcome
+  went_on = rw (fits, sound handles S)
+
   edited : Edits e.call b.document mem e.scratch e.answer e.document e.memory e.scratch_after
   unfolding scratch_after
-  edited =
-      edits b.document mem e.scratch e.call (record { buffers = fits; rules = sound handles S }) e.answer e.document e.memory e.scratch_after
-      (record {
-        answer = s.answer;
-        after = λ g. s.document;
-        kept = λ g. absurd (true≢false (sym g ∙ s.accepted));
-        limits = s.limits.1 ∙ sym s.limits.0;
-        lent = s.words.1 ∙ sym s.words.0;
-        beyond = past_end e.memory s.words.1 ∙ sym (past_end mem s.words.0);
-      })
-      (s.scratch.1 ∙ ap (λ (n : ℕ). replicate n 0) (sym s.scratch.0) ∙ sym (rw fits))
+  edited = record {
+    answer = s.answer ∙ sym (ap (λ (x : Out). x.answer) went_on);
+    after = λ g. s.document ∙ sym (ap (λ (x : Out). x.doc) went_on);
+    kept = λ g. absurd (true≢false (sym g ∙ s.accepted));
+    limits = s.limits.1 ∙ sym s.limits.0;
+    lent = s.words.1 ∙ sym s.words.0;
+    beyond = past_end e.memory s.words.1 ∙ sym (past_end mem s.words.0);
+    cleared = s.scratch.1 ∙ ap (λ (n : ℕ). replicate n 0) (sym s.scratch.0) ∙ sym (rw fits);
+  }
 
   promised : Promised b.document mem e
   promised = subst (λ (q : Bool). PromisedBy q b.document mem e) (sym s.editing) edited

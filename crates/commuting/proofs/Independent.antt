@@ -1,9 +1,9 @@
 -- What `independent` says of the nodes and of each parent.
 -- Assumes nothing.
+use Rattle.std.specs.Prelude.{Option}
 use mathlib.Core.Path.{◌≡◌, refl, sym, ap, ◌∙◌}
 use mathlib.Core.Logic.{◌≢◌, inl, inr}
 use mathlib.Core.Bool.{Bool, true, false, not, ◌||◌, true≢false}
-use mathlib.Core.Option.{Option}
 use mathlib.Core.List.{◌∷◌}
 use Prim.Native.Nat.{ℕ}
 use borrow.Author.Tests.{eq-eqb}

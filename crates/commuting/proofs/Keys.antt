@@ -1,8 +1,9 @@
 -- Two documents that stand for one tree by the same handles have equal order keys.
 -- Assumes nothing.
+use Rattle.std.proofs.lemmas.Option.{none-some}
+use Rattle.std.specs.Prelude.{None}
 use mathlib.Core.Path.{◌≡◌, refl, sym, ap, ◌∙◌, subst}
 use mathlib.Core.Bool.{Bool, true, false}
-use mathlib.Core.Option.{none, none-ne-some}
 use mathlib.Core.List.{List}
 use Prim.Native.Nat.{ℕ, ◌<◌}
 use lib.ListN.{length, get_or}
@@ -19,10 +20,10 @@ use Rattle.commuting.proofs.Slots.{SameSlots, same_live}
 
 module _ (t : Tree) (hs : ℕ → ℕ) (W : WF t) (d e : Doc) (S : Sim d t hs) (R : Sim e t hs) where
   -- a handle that means no birth resolves in the other document neither
-  stale : (h : ℕ) → means t hs h ≡ none → resolves e h ≡ false
+  stale : (h : ℕ) → means t hs h ≡ None → resolves e h ≡ false
   stale =
-      by-handle e t hs R (λ h. means t hs h ≡ none → resolves e h ≡ false)
-      (λ b lb m. absurd (none-ne-some b (sym m ∙ means-live e t hs R b lb)))
+      by-handle e t hs R (λ h. means t hs h ≡ None → resolves e h ≡ false)
+      (λ b lb m. absurd (none-some b (sym m ∙ means-live e t hs R b lb)))
       (λ h m r f. r)
 
   pub same_key : (h : ℕ) → order_key d h ≡ order_key e h

@@ -1,8 +1,8 @@
 -- A move and a renewal of the order leave every slot's generation and kind.
 -- Assumes nothing.
+use Rattle.std.specs.Prelude.{Option, None, Some}
 use mathlib.Core.Path.{◌≡◌, refl, sym, ap₂, ◌∙◌}
 use mathlib.Core.Bool.{Bool, true, false, cond, ◌&&◌}
-use mathlib.Core.Option.{Option, none, some}
 use mathlib.Core.List.{List}
 use Prim.Native.Nat.{ℕ, zero, suc}
 use lib.Dec.{eqb}
@@ -27,7 +27,7 @@ pub same-sym : {d e : Doc} → SameSlots d e → SameSlots e d
 same-sym a = record { gens = sym a.gens; kinds = sym a.kinds }
 
 abbrev live_in : List ℕ → List (Option (Kind ℕ (Option ℕ))) → ℕ → Bool
-live_in g k i = even (get_or g i 1) && is_some (get_or k i none)
+live_in g k i = even (get_or g i 1) && is_some (get_or k i None)
 
 pub same_live : {d e : Doc} → SameSlots d e → (i : ℕ) → live_slot d i ≡ live_slot e i
 same_live s i = ap₂ (λ (g : List ℕ) (k : List (Option (Kind ℕ (Option ℕ)))). live_in g k i) s.gens s.kinds
@@ -39,13 +39,13 @@ same-resolves s h =
     s.kinds
 
 unlinked-same : (o : Option ℕ) (d : Doc) (c : ℕ) → SameSlots (unlink_from o d c) d
-unlinked-same none d c = record { gens = refl; kinds = refl }
-unlinked-same (some p) d c = record { gens = refl; kinds = refl }
+unlinked-same None d c = record { gens = refl; kinds = refl }
+unlinked-same (Some p) d c = record { gens = refl; kinds = refl }
 
 pub moved_same : (d : Doc) (p : ℕ) (at : Option ℕ) (c : ℕ) → SameSlots (move_to d p at c).doc d
 unfolding guarded link set_parent unlink
 moved_same d p at c =
-    go (first (check_move (view_at d c) (view_at d p) (on_path (length d.gens) d c p) (root_taken d (some c))) (full_unless (room_fits e children p)))
+    go (first (check_move (view_at d c) (view_at d p) (on_path (length d.gens) d c p) (root_taken d (Some c))) (full_unless (room_fits e children p)))
   where
     e : Doc
     e = unhook d c

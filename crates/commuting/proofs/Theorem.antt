@@ -1,9 +1,10 @@
 -- Two moves in either order.
 -- Assumes nothing.
+use Rattle.std.proofs.lemmas.Option.{same_Some}
+use Rattle.std.specs.Prelude.{Option, Some}
 use mathlib.Core.Path.{◌≡◌, sym, ap, ap₂, ◌∙◌, subst}
 use mathlib.Core.Logic.{◌≢◌, inl, inr}
 use mathlib.Core.Bool.{true}
-use mathlib.Core.Option.{Option, some, some-injective}
 use mathlib.Core.List.{List}
 use Prim.Native.Nat.{ℕ}
 use lib.ListN.{length}
@@ -27,8 +28,8 @@ use Rattle.commuting.proofs.Slots.{SameSlots, same-trans, same-sym, same-resolve
 use Rattle.commuting.proofs.Keys.{same_key, same-words}
 use Rattle.commuting.proofs.Events.{Went, went, Renewed, renewed}
 
-same-birth : (o p : Option ℕ) (x y : ℕ) → o ≡ some x → p ≡ some y → o ≡ p → x ≡ y
-same-birth o p x y e f g = some-injective x y (sym e ∙ g ∙ f)
+same-birth : (o p : Option ℕ) (x y : ℕ) → o ≡ Some x → p ≡ Some y → o ≡ p → x ≡ y
+same-birth o p x y e f g = same_Some x y (sym e ∙ g ∙ f)
 
 -- what `order_key` answers, past test 4
 key-read : (h : ℕ) (d : Document) (mem : List ℕ) → memory_ok d (length mem) ≡ true → reads (order-key h) d mem ≡ order_key (decode d mem) h

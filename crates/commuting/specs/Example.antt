@@ -1,7 +1,6 @@
 -- The claim at one register: a zone in a zone; the outer one is moved to the end of the Root's list, and the inner one to the end of the outer one's. Each list
 -- has one entry, so that each move takes its list to the arena's end: "Block ranges may differ", and here they do.
-use Rattle.std.specs.Prelude.{◌≡◌, Bool, true, false, List, [], ◌∷◌, ◌++◌, ℕ, get_or, replicate}
-use Rattle.std.proofs.Math.Option.{none}
+use Rattle.std.specs.Prelude.{◌≡◌, Bool, true, false, List, [], ◌∷◌, ◌++◌, ℕ, get_or, replicate, None}
 use Rattle.blocks.specs.Arena.{Block, block}
 use Rattle.model.specs.Kinds.{children}
 use Rattle.model.specs.Doc.{handle_word, root_handle, no_key, range_in}
@@ -78,10 +77,10 @@ register = zone_made ∷ inner_made ∷ []
 -- ---- the two moves, in each order
 
 abbrev pub zone_move : Move
-zone_move = record { node = zone; under = root_handle; index = none }
+zone_move = record { node = zone; under = root_handle; index = None }
 
 abbrev pub inner_move : Move
-inner_move = record { node = inner; under = zone; index = none }
+inner_move = record { node = inner; under = zone; index = None }
 
 abbrev pub zone_earlier : Event
 zone_earlier = event (call_of zone_move) done (counted 3 12 1 false) (laid (three_nodes (block 8 1) (block 4 1)) stale (fours 1 2 1 0) (fours 0 4 4 0))

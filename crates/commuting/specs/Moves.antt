@@ -1,6 +1,5 @@
 -- Two moves, and whether the parents that one leaves and enters are none of the other's (02, n).
-use Rattle.std.specs.Prelude.{Bool, not, ◌&&◌, List, [], ◌∷◌, ℕ, eqb}
-use Rattle.std.proofs.Math.Option.{Option, none, some}
+use Rattle.std.specs.Prelude.{Bool, not, ◌&&◌, List, [], ◌∷◌, ℕ, eqb, Option, None, Some}
 use Rattle.words.specs.Lists.{any}
 use Rattle.model.specs.Doc.{Doc, parent_at}
 use Rattle.model.specs.Calls.{Call, reparent, insert-at}
@@ -12,16 +11,16 @@ pub record Move : Type 0 where
   pub index : Option ℕ
 
 abbrev pub call_at : Option ℕ → ℕ → ℕ → Call
-call_at none c p = reparent c p
-call_at (some i) c p = insert-at p i c
+call_at None c p = reparent c p
+call_at (Some i) c p = insert-at p i c
 
 abbrev pub call_of : Move → Call
 call_of m = call_at m.index m.node m.under
 
 -- the parent that is left; a detached node leaves none
 abbrev pub leaves : Option ℕ → List ℕ
-leaves none = []
-leaves (some p) = p ∷ []
+leaves None = []
+leaves (Some p) = p ∷ []
 
 -- "the parents that one leaves and enters"
 abbrev pub parents_of : Doc → Move → List ℕ

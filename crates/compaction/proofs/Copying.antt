@@ -1,5 +1,6 @@
 -- A list copied and its owner's range renewed: what the memory is then, and that one such step follows another.
 -- Assumes nothing.
+use Rattle.std.specs.Prelude.{Option, None, Some}
 use mathlib.Core.Path.{◌≡◌, refl, sym, ap, ◌∙◌, subst}
 use mathlib.Core.Bool.{Bool, true, false, cond, true≢false}
 use mathlib.Core.List.{List}
@@ -14,8 +15,6 @@ use Rattle.slots.specs.Regions.{put_record}
 use Rattle.records.specs.declared.Range.{Range}
 use Rattle.records.specs.declared.Node.{Node}
 use Rattle.records.specs.declared.NodeRecord.{NodeRecord}
-use Rattle.records.specs.declared.Loaded.{Loaded}
-use Rattle.records.specs.declared.Loaded.TheVariants.{Found, NoNode}
 use Rattle.slots.proofs.Regions.{length-put_record}
 use Rattle.model.specs.Kinds.{Which, children, attributes, namespaces, same_which}
 use Rattle.model.specs.Doc.{Doc, live_slot, kind_in, range_in, list_in}
@@ -70,7 +69,7 @@ module _ (d : Document) (mem : List ℕ) (ok : memory_ok d (length mem) ≡ true
 
 pub record NodeIn (d : Document) (mem : List ℕ) (s : ℕ) : Type 0 where
   pub node : Node
-  pub loaded : loaded_at d.limits.nodes (slots_part d mem) s ≡ Found node
+  pub loaded : loaded_at d.limits.nodes (slots_part d mem) s ≡ Some node
   pub kind : kind_in (decode d mem) s ≡ kind_of node.«data»
 
 pub node_in : (d : Document) (mem : List ℕ) (s : ℕ) → live_slot (decode d mem) s ≡ true → NodeIn d mem s
@@ -79,9 +78,9 @@ node_in d mem s l = go (loaded_at d.limits.nodes (slots_part d mem) s) refl
     made : s < slots_made d
     made = live_made (pool_in d mem) (names_in d mem) (lengths_add d mem) d mem s l
 
-    go : (x : Loaded) → loaded_at d.limits.nodes (slots_part d mem) s ≡ x → NodeIn d mem s
-    go (Found m) e = record { node = m; loaded = e; kind = kind-found (pool_in d mem) (names_in d mem) (lengths_add d mem) d mem s made m e }
-    go NoNode e = absurd (true≢false (sym l ∙ live-none (pool_in d mem) (names_in d mem) (lengths_add d mem) d mem s made e))
+    go : (x : Option Node) → loaded_at d.limits.nodes (slots_part d mem) s ≡ x → NodeIn d mem s
+    go (Some m) e = record { node = m; loaded = e; kind = kind-found (pool_in d mem) (names_in d mem) (lengths_add d mem) d mem s made m e }
+    go None e = absurd (true≢false (sym l ∙ live-none (pool_in d mem) (names_in d mem) (lengths_add d mem) d mem s made e))
 
 -- ---- one list
 

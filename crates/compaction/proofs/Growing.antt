@@ -1,15 +1,13 @@
 -- A turn of the walk over a tree: the top of the stack is met, its children go on the stack, and its lists are laid.
 -- Assumes nothing.
+use Rattle.std.specs.List.{slice_get}
+use Rattle.std.specs.Prelude.{None, Some}
 use mathlib.Core.Path.{◌≡◌, refl, sym, ap, ◌∙◌, subst}
 use mathlib.Core.Bool.{Bool, true, false, cond}
-use mathlib.Core.Option.{none}
-use mathlib.Core.List.{List, [], ◌∷◌, ◌++◌, reverse, append_assoc, append-nil}
+use mathlib.Core.List.{List, [], ◌∷◌, ◌++◌, append_assoc, append-nil}
 use Prim.Native.Nat.{ℕ, zero, suc, ◌+◌, ◌-◌, ◌≤◌, ◌<◌}
 use native.Mathlib.Omega.{arith}
-use lib.ListN.{length, get_or, take, length-append, length-reverse}
-use lib.Seq.{length-take-le}
-use Rattle.words.specs.Parts.{put}
-use Rattle.words.proofs.Parts.{length-put}
+use lib.ListN.{length, set, length-append}
 use Rattle.records.specs.Handles.{handle_index}
 use Rattle.model.specs.Kinds.{Which, children, is_element}
 use Rattle.model.specs.Doc.{Doc, live_slot, handle_at, kind_at, parent_in, list_in, list_at, has_list}
@@ -22,8 +20,9 @@ use Rattle.layout.proofs.Sizes.{sizes}
 use Rattle.memory.proofs.Columns.{length-gens, live_made}
 use Rattle.memory.proofs.Shaped.{length_ids}
 use Rattle.walks.specs.Order.{ListHeld}
+use Rattle.walks.specs.Stack.{Stacked, stacked, pushed, popped}
 use Rattle.walks.proofs.Walkable.{live_of}
-use Rattle.walks.proofs.Renewing.{stack_of, stack_top, stack-pushed}
+use Rattle.walks.proofs.Stacks.{room_of, room-first, entries-first, room-popped, room-pushed, word_popped, none_popped}
 use Rattle.compaction.specs.declared.copy.Lengths.{Lengths}
 use Rattle.compaction.specs.Copies.{copies_in, Copies, Layable, NodeLayable, node_laid, rebuilt_below, TreesLaid}
 use Rattle.compaction.proofs.Nodes.{copies-more, copies-same, copies-are, kind-kept, list-kept, layable-kept}
@@ -112,13 +111,12 @@ module _ (d : Document) (o : List ℕ) (F : FromRules d o) where
   -- ---- the turns of one tree
 
   -- so many turns are done: the nodes that they walked, and what the walk of the rest of the stack will
-  pub record Growing (i room : ℕ) (mem stack : List ℕ) (height : ℕ) (used : Lengths) (left : ℕ) : Type 0 where
-    pub tall : height ≤ length stack
-    pub same-room : length stack ≡ room
+  pub record Growing (i room : ℕ) (mem : List ℕ) (stack : Stacked) (used : Lengths) (left : ℕ) : Type 0 where
+    pub same-room : room_of stack ≡ room
     pub walked : List ℕ
-    pub whole : walked ++ walk (λ h. list_at (decode d o) children h) left (stack_of height stack) ≡ walk (λ h. list_at (decode d o) children h) (length (decode d o).gens) (handle_at (decode d o) i ∷ [])
+    pub whole : walked ++ walk (λ h. list_at (decode d o) children h) left stack.entries ≡ walk (λ h. list_at (decode d o) children h) (length (decode d o).gens) (handle_at (decode d o) i ∷ [])
     pub turns : length walked + left ≡ slots_made d
-    pub met : Met (decode d o) (suc i) (rebuilt_below (decode d o) i ++ walked) (stack_of height stack)
+    pub met : Met (decode d o) (suc i) (rebuilt_below (decode d o) i ++ walked) stack.entries
     pub copies : Copies d o mem used (layings (decode d o) (rebuilt_below (decode d o) i ++ walked))
 
   abbrev next : ℕ → List ℕ
@@ -128,120 +126,108 @@ module _ (d : Document) (o : List ℕ) (F : FromRules d o) where
   pub record Started (i : ℕ) (mem : List ℕ) (used : Lengths) (word : ℕ) : Type 0 where
     pub copies : Copies d o mem used (layings (decode d o) (rebuilt_below (decode d o) i))
     pub live : live_slot (decode d o) i ≡ true
-    pub top : parent_in (decode d o) i ≡ none
+    pub top : parent_in (decode d o) i ≡ None
     pub handle : word ≡ handle_at (decode d o) i
 
-  pub growing-first : (i : ℕ) (mem stack : List ℕ) (used : Lengths) (left : ℕ) → 0 < length stack → left ≡ slots_made d → Started i mem used (get_or stack 0 0)
-      → Growing i (length stack) mem stack 1 used left
-  growing-first i mem [] used left h e S = absurd (omega arith)
-  growing-first i mem (x ∷ l) used left h e S =
+  pub growing-first : (i : ℕ) (mem words : List ℕ) (stack : Stacked) (word : ℕ) (used : Lengths) (left : ℕ) → 0 < length words → stack ≡ stacked 1 (set words 0 word) → left ≡ slots_made d
+      → Started i mem used word → Growing i (length words) mem stack used left
+  growing-first i mem words stack word used left h q e S =
       let B = rebuilt_below D i in
       let b = live_made (pool_in d o) (names_in d o) (lengths_add d o) d o i S.live in
+      let one : stack.entries ≡ handle_at D i ∷ [] = ap (λ (s : Stacked). s.entries) q ∙ entries-first words word h ∙ ap (λ (y : ℕ). y ∷ []) S.handle in
       record {
-        tall = omega arith;
-        same-room = refl;
+        same-room = ap (λ (s : Stacked). room_of s) q ∙ room-first words word h;
         walked = [];
-        whole = ap (λ (k : ℕ). walk next k (x ∷ [])) (e ∙ sym gens-made) ∙ ap (λ (y : ℕ). walk next (length D.gens) (y ∷ [])) S.handle;
+        whole = ap (λ (k : ℕ). walk next k stack.entries) (e ∙ sym gens-made) ∙ ap (walk next (length D.gens)) one;
         turns = omega arith;
         met =
-            subst (λ (y : ℕ). Met D (suc i) (B ++ []) (y ∷ [])) (sym S.handle)
+            subst (Met D (suc i) (B ++ [])) (sym one)
             (subst (λ (k : List ℕ). Met D (suc i) k (handle_at D i ∷ [])) (sym (append-nil B))
             (met-top D F.rules few i B (met-below D F.rules few i (omega (arith, gens-made))) S.live S.top));
         copies = subst (λ (k : List ℕ). Copies d o mem used (layings D k)) (sym (append-nil B)) S.copies;
       }
 
-  module _ (i room : ℕ) (mem stack : List ℕ) (height : ℕ) (used : Lengths) (left : ℕ) (G : Growing i room mem stack height used left) where
-    stack-size : length (stack_of height stack) ≡ height
-    stack-size = length-reverse (take height stack) ∙ length-take-le height stack G.tall
-
-    pub height-short : height ≤ 65536
-    height-short = omega (arith, stack-size, met-fits D F.rules few (suc i) (rebuilt_below D i ++ G.walked) (stack_of height stack) G.met, few)
-
+  module _ (i room : ℕ) (mem : List ℕ) (stack : Stacked) (used : Lengths) (left : ℕ) (G : Growing i room mem stack used left) where
     pub memory_kept : memory_ok d (length mem) ≡ true
     memory_kept = ap (memory_ok d) G.copies.size ∙ F.memory
 
-    module _ (pos : 0 < height) where
-      abbrev word : ℕ
-      word = get_or stack (height - 1) 0
+    module _ (word : ℕ) (top : Some word ≡ slice_get stack.entries 0) where
+      taken : stack.entries ≡ word ∷ (popped stack).entries
+      taken = word_popped stack word top
 
       abbrev B : List ℕ
       B = rebuilt_below (decode d o) i ++ G.walked
 
-      M : Met D (suc i) B (word ∷ stack_of (height - 1) stack)
-      M = subst (Met D (suc i) B) (stack_top stack height pos G.tall) G.met
+      M : Met D (suc i) B (word ∷ (popped stack).entries)
+      M = subst (Met D (suc i) B) taken G.met
 
       pub turn-left : 1 ≤ left
       turn-left =
-          let f = met-fits D F.rules few (suc i) B (word ∷ stack_of (height - 1) stack) M in
+          let f = met-fits D F.rules few (suc i) B (word ∷ (popped stack).entries) M in
           let t = G.turns in
           omega (arith, length-append (rebuilt_below D i) G.walked, gens-made)
 
-      pub word_held : (s : ℕ) → s ≡ handle_index (get_or stack (height - 1) 0) → ListHeld d mem children s
-      word_held s e = subst (ListHeld d mem children) (sym e) (children-held (suc i) B word (stack_of (height - 1) stack) M mem used G.copies)
+      pub word_held : (s : ℕ) → s ≡ handle_index word → ListHeld d mem children s
+      word_held s e = subst (ListHeld d mem children) (sym e) (children-held (suc i) B word (popped stack).entries M mem used G.copies)
 
-      pub word-layable : NodeLayable d mem (get_or stack (height - 1) 0) used
-      word-layable = node-layable (suc i) B word (stack_of (height - 1) stack) M mem used G.copies
+      pub word-layable : NodeLayable d mem word used
+      word-layable = node-layable (suc i) B word (popped stack).entries M mem used G.copies
 
-      module _ (s : ℕ) (e : s ≡ handle_index (get_or stack (height - 1) 0)) (entries : List ℕ) (g : entries ≡ list_in (decode d mem) children s) where
+      module _ (s : ℕ) (e : s ≡ handle_index word) (entries : List ℕ) (g : entries ≡ list_in (decode d mem) children s) where
         entries-are : entries ≡ next word
-        entries-are = g ∙ ap (list_in (decode d mem) children) e ∙ children-same (suc i) B word (stack_of (height - 1) stack) M mem used G.copies
+        entries-are = g ∙ ap (list_in (decode d mem) children) e ∙ children-same (suc i) B word (popped stack).entries M mem used G.copies
 
-        M' : Met D (suc i) (B ++ (word ∷ [])) (entries ++ stack_of (height - 1) stack)
+        M' : Met D (suc i) (B ++ (word ∷ [])) (entries ++ (popped stack).entries)
         M' =
-            subst (λ (k : List ℕ). Met D (suc i) (B ++ (word ∷ [])) (k ++ stack_of (height - 1) stack)) (sym entries-are)
-            (met_next D F.rules few (suc i) B word (stack_of (height - 1) stack) M)
+            subst (λ (k : List ℕ). Met D (suc i) (B ++ (word ∷ [])) (k ++ (popped stack).entries)) (sym entries-are)
+            (met_next D F.rules few (suc i) B word (popped stack).entries M)
 
-        pub stack-room : d.limits.nodes ≤ room → height - 1 + length entries ≤ length stack
+        pub stack-room : d.limits.nodes ≤ room → length entries ≤ length (popped stack).free
         stack-room r =
-            let t = G.tall in
             let q = G.same-room in
-            let size : length (stack_of (height - 1) stack) ≡ height - 1 = length-reverse (take (height - 1) stack) ∙ length-take-le (height - 1) stack (omega arith) in
             omega (
               arith,
-              met-fits D F.rules few (suc i) (B ++ (word ∷ [])) (entries ++ stack_of (height - 1) stack) M',
-              length-append entries (stack_of (height - 1) stack),
+              met-fits D F.rules few (suc i) (B ++ (word ∷ [])) (entries ++ (popped stack).entries) M',
+              length-append entries (popped stack).entries,
               gens-made,
+              room-popped stack,
             )
 
-        pub growing-next : d.limits.nodes ≤ room → (stack' : List ℕ) (height' : ℕ) → height' ≡ height - 1 + length entries → stack' ≡ put (height - 1) (reverse entries) stack
-            → (mem' : List ℕ) (used' : Lengths) → Copies d mem mem' used' (node_laid (decode d mem) (copies_in d mem used) (get_or stack (height - 1) 0))
-            → Growing i room mem' stack' height' used' (left - 1)
-        growing-next r stack' height' a p mem' used' C =
-            let size : length stack' ≡ length stack = ap length p ∙ length-put stack (height - 1) (reverse entries) (omega (arith, stack-room r, length-reverse entries)) in
-            let top : stack_of height' stack' ≡ entries ++ stack_of (height - 1) stack =
-            ap (λ (k : ℕ). stack_of k stack') a ∙ ap (stack_of (height - 1 + length entries)) p ∙ stack-pushed stack entries (height - 1) (stack-room r) in
+        pub growing-next : d.limits.nodes ≤ room → (stack' : Stacked) → stack' ≡ pushed entries (popped stack)
+            → (mem' : List ℕ) (used' : Lengths) → Copies d mem mem' used' (node_laid (decode d mem) (copies_in d mem used) word)
+            → Growing i room mem' stack' used' (left - 1)
+        growing-next r stack' p mem' used' C =
+            let top' : stack'.entries ≡ entries ++ (popped stack).entries = ap (λ (s : Stacked). s.entries) p in
             let behind : B ++ (word ∷ []) ≡ rebuilt_below D i ++ (G.walked ++ (word ∷ [])) = append_assoc (rebuilt_below D i) G.walked (word ∷ []) in
             record {
-              tall = omega (arith, stack-room r);
-              same-room = size ∙ G.same-room;
+              same-room = ap (λ (s : Stacked). room_of s) p ∙ room-pushed entries (popped stack) (stack-room r) ∙ room-popped stack ∙ G.same-room;
               walked = G.walked ++ (word ∷ []);
-              whole = append_assoc G.walked (word ∷ []) (walk next (left - 1) (stack_of height' stack')) ∙ ap (λ (k : List ℕ). G.walked ++ k) (step left turn-left top) ∙ G.whole;
+              whole = append_assoc G.walked (word ∷ []) (walk next (left - 1) stack'.entries) ∙ ap (λ (k : List ℕ). G.walked ++ k) (step left turn-left top') ∙ G.whole;
               turns = let t = G.turns in omega (arith, turn-left, length-append G.walked (word ∷ []));
               met =
-                  subst (λ (k : List ℕ). Met D (suc i) k (stack_of height' stack')) behind
-                  (subst (Met D (suc i) (B ++ (word ∷ []))) (sym top) M');
+                  subst (λ (k : List ℕ). Met D (suc i) k stack'.entries) behind
+                  (subst (Met D (suc i) (B ++ (word ∷ []))) (sym top') M');
               copies =
                   subst (λ (k : List ℕ). Copies d o mem' used' (layings D k)) behind
-                  (node-next (suc i) B word (stack_of (height - 1) stack) M mem used G.copies mem' used' C);
+                  (node-next (suc i) B word (popped stack).entries M mem used G.copies mem' used' C);
             }
           where
-            step : (n : ℕ) → 1 ≤ n → stack_of height' stack' ≡ entries ++ stack_of (height - 1) stack → word ∷ walk next (n - 1) (stack_of height' stack') ≡ walk next n (stack_of height stack)
+            step : (n : ℕ) → 1 ≤ n → stack'.entries ≡ entries ++ (popped stack).entries → word ∷ walk next (n - 1) stack'.entries ≡ walk next n stack.entries
             step zero h t = absurd (omega arith)
             step (suc n) h t =
                 let z : suc n - 1 ≡ n = omega arith in
-                ap (λ (k : ℕ). word ∷ walk next k (stack_of height' stack')) z
-                ∙ ap (λ (k : List ℕ). word ∷ walk next n k) (t ∙ ap (λ (k : List ℕ). k ++ stack_of (height - 1) stack) entries-are)
-                ∙ sym (ap (walk next (suc n)) (stack_top stack height pos G.tall))
+                ap (λ (k : ℕ). word ∷ walk next k stack'.entries) z
+                ∙ ap (λ (k : List ℕ). word ∷ walk next n k) (t ∙ ap (λ (k : List ℕ). k ++ (popped stack).entries) entries-are)
+                ∙ sym (ap (walk next (suc n)) taken)
 
-  pub growing-last : (i room : ℕ) (mem stack : List ℕ) (height : ℕ) (used : Lengths) (left : ℕ) → Growing i room mem stack height used left → height ≤ 0
-      → live_slot (decode d o) i ≡ true → parent_in (decode d o) i ≡ none → TreesLaid d o mem (suc i) used
-  growing-last i room mem stack (suc n) used left G h l e = absurd (omega arith)
-  growing-last i room mem stack zero used left G h l e = record {
+  pub growing-last : (i room : ℕ) (mem : List ℕ) (stack : Stacked) (used : Lengths) (left : ℕ) → Growing i room mem stack used left → None ≡ slice_get stack.entries 0
+      → live_slot (decode d o) i ≡ true → parent_in (decode d o) i ≡ None → TreesLaid d o mem (suc i) used
+  growing-last i room mem stack used left G h l e = record {
     memory = F.memory;
     rules = F.rules;
     copies =
         subst (λ (k : List ℕ). Copies d o mem used (layings D k))
-        (ap (λ (k : List ℕ). rebuilt_below D i ++ k) (sym (append-nil G.walked) ∙ ap (λ (k : List ℕ). G.walked ++ k) (sym (walk_none left)) ∙ G.whole)
+        (ap (λ (k : List ℕ). rebuilt_below D i ++ k) (sym (append-nil G.walked) ∙ ap (λ (k : List ℕ). G.walked ++ k) (sym (walk_none left) ∙ ap (walk next left) (sym (none_popped stack h))) ∙ G.whole)
         ∙ sym (rebuilt-top D F.rules few i (omega (arith, few, gens-made, live_made (pool_in d o) (names_in d o) (lengths_add d o) d o i l)) l e))
         G.copies;
   }

@@ -1,9 +1,10 @@
 -- The nodes that a rebuild meets: the trees of the parentless nodes in slot order, each node once; and in the end every node that stands among children or has no parent.
 -- Assumes nothing.
+use Rattle.std.proofs.lemmas.Option.{none-some}
+use Rattle.std.specs.Prelude.{Option, None, Some}
 use mathlib.Core.Path.{◌≡◌, refl, sym, ap, ◌∙◌, subst}
 use mathlib.Core.Logic.{◌⊎◌, inl, inr}
 use mathlib.Core.Bool.{Bool, true, false, cond, ◌&&◌}
-use mathlib.Core.Option.{Option, none, some, none-ne-some}
 use mathlib.Core.List.{List, [], ◌∷◌, ◌++◌, reverse, reverse-append, reverse-reverse, append_assoc, append-nil, Memᴰ}
 use Prim.Native.Nat.{ℕ, zero, suc, ◌+◌, ◌≤◌, ◌<◌}
 use native.Mathlib.Omega.{arith}
@@ -19,12 +20,11 @@ use Rattle.model.specs.Kinds.{Which, children, which_of, owns}
 use Rattle.model.specs.Doc.{Doc, generation_at, live_slot, handle_at, resolves, kind_in, kind_at, parent_in, parent_at, list_at, is_none}
 use Rattle.model.specs.Rules.{Rules, Ends}
 use Rattle.model.specs.Edits.{walk, rebuilt}
-use Rattle.laws.proofs.Rebuilt.{container-child}
+use Rattle.laws.proofs.Rebuilt.{container-child, mem-keep}
 use Rattle.laws.proofs.Wf.{Distinct}
 use Rattle.laws.proofs.Basics.{live-below, count-mem}
 use Rattle.laws.proofs.Membership.{mem-joined, mem-reverse, mem-reverse-old, distinct-reverse}
 use Rattle.laws.proofs.Laid.{mem-tabulate}
-use Rattle.laws.proofs.Rebuilt.{mem-keep}
 use Rattle.walks.proofs.Walkable.{live_of, handle-of, same_index, parent_is, entry-live, list-once}
 use Rattle.walks.proofs.Visits.{Branching, VisitingFrom, visiting-none, visiting-none-is, visited-next, visited-next-is, visited-fits, visiting-top, visiting-top-is, visiting-more, visiting-more-is}
 use Rattle.compaction.specs.Copies.{tops_below, rebuilt_below}
@@ -47,7 +47,7 @@ module _ (D : Doc) where
 
   -- a node without a parent in the first i slots
   abbrev pub TopBelow : ℕ → ℕ → Type 0
-  TopBelow i y = (parent_at D y ≡ none) × (handle_index y < i)
+  TopBelow i y = (parent_at D y ≡ None) × (handle_index y < i)
 
   -- met in this order, from tops in the first i slots; the stack is still to be walked
   pub record Met (i : ℕ) (met stack : List ℕ) : Type 0 where
@@ -84,7 +84,7 @@ module _ (D : Doc) (R : Rules D) (few : length D.gens ≤ 65536) where
     child = λ x c lx m. (
       (entry-live D R.entries children x c lx.0 m, (R.entries.no_other children (handle_index x) c (live_of D x lx.0) m).2),
       parent_is D R.entries children x c lx.0 m,
-      λ t. none-ne-some x (sym t.0 ∙ parent_is D R.entries children x c lx.0 m),
+      λ t. none-some x (sym t.0 ∙ parent_is D R.entries children x c lx.0 m),
     );
     once = λ x lx. list-once D R.entries children x lx.0;
   }
@@ -121,7 +121,7 @@ module _ (D : Doc) (R : Rules D) (few : length D.gens ≤ 65536) where
     pub met-skip : Met D (suc i) met []
     met-skip = record { count = M.count; visiting = wider; order = wider-is ∙ M.order }
 
-    module _ (l : live_slot D i ≡ true) (e : parent_in D i ≡ none) where
+    module _ (l : live_slot D i ≡ true) (e : parent_in D i ≡ None) where
       index_is : handle_index (handle_at D i) ≡ i
       index_is = handle_index-word_of (record { index = i; generation = generation_at D i }) (omega (arith, live-below D i l))
 
@@ -133,15 +133,15 @@ module _ (D : Doc) (R : Rules D) (few : length D.gens ≤ 65536) where
         ap (λ (k : ℕ). which_of (kind_in D k)) index_is ∙ R.parents.detached i l e,
       )
 
-      top-parent : parent_at D (handle_at D i) ≡ none
+      top-parent : parent_at D (handle_at D i) ≡ None
       top-parent = ap (parent_in D) index_is ∙ e
 
       top-new : Memᴰ (handle_at D i) wider.visited → ⊥
       top-new m = go (M.visiting.pushed (handle_at D i) (inl (subst (λ (k : List ℕ). Memᴰ (handle_at D i) k) wider-is m)))
         where
-          go : TopBelow D i (handle_at D i) ⊎ ((p : ℕ) × Memᴰ p M.visiting.visited × (parent_at D (handle_at D i) ≡ some p)) → ⊥
+          go : TopBelow D i (handle_at D i) ⊎ ((p : ℕ) × Memᴰ p M.visiting.visited × (parent_at D (handle_at D i) ≡ Some p)) → ⊥
           go (inl t) = omega (arith, t.1, index_is)
-          go (inr q) = none-ne-some q.0 (sym top-parent ∙ q.2)
+          go (inr q) = none-some q.0 (sym top-parent ∙ q.2)
 
       pub met-top : Met D (suc i) met (handle_at D i ∷ [])
       met-top =
@@ -180,7 +180,7 @@ module _ (D : Doc) (R : Rules D) (few : length D.gens ≤ 65536) where
     at-index : handle_index (handle_at D i) ≡ i
     at-index = handle_index-word_of (record { index = i; generation = generation_at D i }) (omega arith)
 
-    pub rebuilt-top : live_slot D i ≡ true → parent_in D i ≡ none → rebuilt_below D (suc i) ≡ rebuilt_below D i ++ walk (λ h. list_at D children h) (length D.gens) (handle_at D i ∷ [])
+    pub rebuilt-top : live_slot D i ≡ true → parent_in D i ≡ None → rebuilt_below D (suc i) ≡ rebuilt_below D i ++ walk (λ h. list_at D children h) (length D.gens) (handle_at D i ∷ [])
     rebuilt-top l e =
         let q : is_none (parent_at D (handle_at D i)) ≡ true = ap (λ (k : ℕ). is_none (parent_in D k)) at-index ∙ ap is_none e in
         rebuilt-next i
@@ -204,8 +204,8 @@ module _ (D : Doc) (R : Rules D) (few : length D.gens ≤ 65536) where
 
       go : Met D i (rebuilt_below D i) [] → (t : Bool) → live_slot D i ≡ t → (p : Option ℕ) → parent_in D i ≡ p → Met D (suc i) (rebuilt_below D (suc i)) []
       go M false l p e = skip M (ap (λ (t : Bool). t && is_none (parent_in D i)) l)
-      go M true l (some p) e = skip M (ap (λ (t : Bool). t && is_none (parent_in D i)) l ∙ ap is_none e)
-      go M true l none e =
+      go M true l (Some p) e = skip M (ap (λ (t : Bool). t && is_none (parent_in D i)) l ∙ ap is_none e)
+      go M true l None e =
           subst (λ (k : List ℕ). Met D (suc i) k []) (sym (rebuilt-top i (omega arith) l e))
           (met-walk (suc i) (length D.gens) (rebuilt_below D i) (handle_at D i ∷ []) (met-top i (rebuilt_below D i) M l e) (omega arith))
 

@@ -20,10 +20,6 @@ use Rattle.memory.specs.Decode.{arena_in, decode}
 use Rattle.compaction.specs.declared.copy.Lengths.{Lengths}
 use Rattle.compaction.specs.Copies.{length_of, with_blocks, copies_in, Copies, Layable, NodeLayable, list_laid, node_laid}
 
--- no copy more
-pub copies-self : (d : Document) (mem : List ℕ) (used : Lengths) → Copies d mem mem used (copies_in d mem used)
-copies-self d mem used = record { size = refl; past = refl; document = refl; ids = λ w. refl; copies = λ w. refl }
-
 module _ (d : Document) (o mem : List ℕ) (used : Lengths) (a : Which → Laying) (C : Copies d o mem used a) where
   -- copies after copies
   pub copies-more : (mem' : List ℕ) (used' : Lengths) (b : Which → Laying) → Copies d mem mem' used' b → Copies d o mem' used' b

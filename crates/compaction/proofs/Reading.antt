@@ -1,8 +1,8 @@
 -- What is read of the node in a slot.
 -- Assumes nothing.
+use Rattle.std.specs.Prelude.{None}
 use mathlib.Core.Path.{◌≡◌, sym, ap, ◌∙◌}
 use mathlib.Core.Bool.{Bool, true, false, ◌&&◌}
-use mathlib.Core.Option.{none}
 use mathlib.Core.List.{List}
 use Prim.Native.Nat.{ℕ, ◌+◌, ◌*◌, ◌%◌, ◌≤◌, ◌<◌}
 use native.Mathlib.Omega.{arith}
@@ -36,7 +36,7 @@ module _ (d : Document) (mem : List ℕ) (s : ℕ) (made : s < slots_made d) (g 
   pub top-odd : eqb (g % 2) 0 ≡ false → false ≡ (live_slot (decode d mem) s && is_none (parent_in (decode d mem) s))
   top-odd y =
       let odd : live_slot (decode d mem) s ≡ false =
-      ap (λ (k : Bool). k && is_some (get_or (decode d mem).kinds s none)) (even_is ∙ y) in
+      ap (λ (k : Bool). k && is_some (get_or (decode d mem).kinds s None)) (even_is ∙ y) in
       sym (ap (λ (k : Bool). k && is_none (parent_in (decode d mem) s)) odd)
 
 pub nodes-few : (d : Document) (mem : ℕ) → memory_ok d mem ≡ true → d.limits.nodes ≤ 65536

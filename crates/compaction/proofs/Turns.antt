@@ -1,15 +1,14 @@
 -- The walk over the tree of a slot as the code does it: the trees before may have been laid of any document.
 -- Assumes nothing.
+use Rattle.std.specs.List.{slice_get}
+use Rattle.std.specs.Prelude.{Option, None, Some}
 use mathlib.Core.Path.{◌≡◌, refl, sym, ap, ◌∙◌, subst}
 use mathlib.Core.Bool.{Bool, true, false, ◌&&◌, false≢true}
-use mathlib.Core.Option.{Option, none, some}
-use mathlib.Core.List.{List, reverse}
+use mathlib.Core.List.{List}
 use Prim.Native.Nat.{ℕ, ◌+◌, ◌-◌, ◌≤◌, ◌<◌}
 use native.Mathlib.Omega.{arith}
 use native.Mathlib.Numerals.{add-one}
-use lib.ListN.{length, get_or, set, replicate, length-set}
-use lib.Seq.{get_or-set_same}
-use Rattle.words.specs.Parts.{put}
+use lib.ListN.{length, set, replicate}
 use Rattle.words.proofs.Tests.{and_left, and_right}
 use Rattle.blocks.specs.Compact.{copied}
 use Rattle.blocks.proofs.Copies.{copied_none}
@@ -24,6 +23,7 @@ use Rattle.memory.specs.Decode.{slots_made, arena_part, arena_used, arena_in, de
 use Rattle.layout.proofs.Sizes.{limits-fit, memory-limits, sizes}
 use Rattle.memory.proofs.Shaped.{length-arena_part, length_ids, length-caps}
 use Rattle.walks.specs.Order.{ListHeld}
+use Rattle.walks.specs.Stack.{Stacked, stacked, pushed, popped}
 use Rattle.compaction.specs.declared.copy.Lengths.{Lengths}
 use Rattle.compaction.specs.Copies.{length_of, no_lengths, copies_in, Copies, NodeLayable, node_laid, NodesEven, TreesLaid, TreeAhead, NextLaid}
 use Rattle.compaction.proofs.Growing as growing
@@ -48,7 +48,7 @@ module _ (d : Document) (o mem : List ℕ) (s : ℕ) (used : Lengths) (T : Trees
   pub parent-before : parent_in (decode d mem) s ≡ parent_in (decode d o) s
   parent-before = ap (λ (x : Doc). parent_in x s) T.copies.document
 
-  pub started : live_slot (decode d mem) s ≡ true → parent_in (decode d mem) s ≡ none → (word : ℕ) → word ≡ handle_at (decode d mem) s → Started d o from-rules s mem used word
+  pub started : live_slot (decode d mem) s ≡ true → parent_in (decode d mem) s ≡ None → (word : ℕ) → word ≡ handle_at (decode d mem) s → Started d o from-rules s mem used word
   started l t word e = record {
     copies = T.copies;
     live = sym live-before ∙ l;
@@ -56,78 +56,57 @@ module _ (d : Document) (o mem : List ℕ) (s : ℕ) (used : Lengths) (T : Trees
     handle = e ∙ ap (λ (x : Doc). handle_at x s) T.copies.document;
   }
 
-pub some-room : (d : Document) (mem stack : ℕ) → memory_ok d mem ≡ true → d.limits.nodes ≤ stack → 0 < stack
-some-room d mem stack ok h = let f = limits-fit (limits_of d.limits) (memory-limits d mem ok) in omega (arith, f.some-node)
+pub some-room : (d : Document) (mem room : ℕ) → memory_ok d mem ≡ true → d.limits.nodes ≤ room → 0 < room
+some-room d mem room ok h = let f = limits-fit (limits_of d.limits) (memory-limits d mem ok) in omega (arith, f.some-node)
 
-pub room-set : (stack : List ℕ) (word n : ℕ) → n ≤ length stack → n ≤ length (set stack 0 word)
-room-set stack word n h = omega (arith, length-set stack 0 word)
+module _ (d : Document) (mem₀ words : List ℕ) (s : ℕ) (laid₀ : Lengths) where
+  pub record TreeTurn (mem : List ℕ) (stack : Stacked) (laid : Lengths) (left : ℕ) : Type 0 where
+    pub grows : (o : List ℕ) (F : FromRules d o) (i : ℕ) → Started d o F i mem₀ laid₀ (handle_at (decode d mem₀) s) → Growing d o F i (length words) mem stack laid left
 
-pub stack_set : (stack : List ℕ) (word : ℕ) → 0 < length stack → 0 < length (set stack 0 word)
-stack_set stack word h = omega (arith, length-set stack 0 word)
+  pub turn-first : (stack : Stacked) (word left : ℕ) → 0 < length words → stack ≡ stacked 1 (set words 0 word) → word ≡ handle_at (decode d mem₀) s → left ≡ slots_made d → TreeTurn mem₀ stack laid₀ left
+  turn-first stack word left h q w e = record {
+    grows = λ o F i S. growing.growing-first d o F i mem₀ words stack word laid₀ left h q e (subst (Started d o F i mem₀ laid₀) (sym w) S);
+  }
 
-pub handle-stored : (stack : List ℕ) (word n : ℕ) → 0 < length stack → word ≡ n → get_or (set stack 0 word) 0 0 ≡ n
-handle-stored stack word n h e = get_or-set_same stack 0 word 0 h ∙ e
-
-module _ (d : Document) (mem₀ stack₀ : List ℕ) (laid₀ : Lengths) where
-  pub record TreeTurn (mem stack : List ℕ) (height : ℕ) (laid : Lengths) (left : ℕ) : Type 0 where
-    pub size : length mem ≡ length mem₀
-    pub same-room : length stack ≡ length stack₀
-    pub grows : (o : List ℕ) (F : FromRules d o) (i : ℕ) → Started d o F i mem₀ laid₀ (get_or stack₀ 0 0) → Growing d o F i (length stack₀) mem stack height laid left
-
-  pub turn-first : (left : ℕ) → 0 < length stack₀ → left ≡ slots_made d → TreeTurn mem₀ stack₀ 1 laid₀ left
-  turn-first left h e = record { size = refl; same-room = refl; grows = λ o F i S. growing.growing-first d o F i mem₀ stack₀ laid₀ left h e S }
-
-  module _ (s : ℕ) (T : TreeAhead d mem₀ s laid₀) (h : get_or stack₀ 0 0 ≡ handle_at (decode d mem₀) s)
-      (mem stack : List ℕ) (height : ℕ) (laid : Lengths) (left : ℕ) (I : TreeTurn mem stack height laid left) where
+  module _ (T : TreeAhead d mem₀ s laid₀) (mem : List ℕ) (stack : Stacked) (laid : Lengths) (left : ℕ) (I : TreeTurn mem stack laid left) where
     abbrev F : FromRules d T.origin
     F = from-rules d T.origin mem₀ s laid₀ T.trees
 
-    G : Growing d T.origin F s (length stack₀) mem stack height laid left
-    G = I.grows T.origin F s (started d T.origin mem₀ s laid₀ T.trees T.live T.top (get_or stack₀ 0 0) h)
+    G : Growing d T.origin F s (length words) mem stack laid left
+    G = I.grows T.origin F s (started d T.origin mem₀ s laid₀ T.trees T.live T.top (handle_at (decode d mem₀) s) refl)
 
-    pub turn-height : height ≤ 65536
-    turn-height = growing.height-short d T.origin F s (length stack₀) mem stack height laid left G
-
-    pub turn-tall : height ≤ length stack
-    turn-tall = G.tall
-
-    module _ (pos : 0 < height) where
+    module _ (word : ℕ) (top : Some word ≡ slice_get stack.entries 0) where
       pub turn-left : 1 ≤ left
-      turn-left = growing.turn-left d T.origin F s (length stack₀) mem stack height laid left G pos
+      turn-left = growing.turn-left d T.origin F s (length words) mem stack laid left G word top
 
-      pub turn-held : (k : ℕ) → k ≡ handle_index (get_or stack (height - 1) 0) → ListHeld d mem children k
-      turn-held = growing.word_held d T.origin F s (length stack₀) mem stack height laid left G pos
+      pub turn-held : (k : ℕ) → k ≡ handle_index word → ListHeld d mem children k
+      turn-held = growing.word_held d T.origin F s (length words) mem stack laid left G word top
 
-      pub turn-layable : NodeLayable d mem (get_or stack (height - 1) 0) laid
-      turn-layable = growing.word-layable d T.origin F s (length stack₀) mem stack height laid left G pos
+      pub turn-layable : NodeLayable d mem word laid
+      turn-layable = growing.word-layable d T.origin F s (length words) mem stack laid left G word top
 
-      module _ (k : ℕ) (e : k ≡ handle_index (get_or stack (height - 1) 0)) (entries : List ℕ) (g : entries ≡ list_in (decode d mem) children k) (r : d.limits.nodes ≤ length stack₀) where
-        pub turn-room : height - 1 + length entries ≤ length stack
-        turn-room = growing.stack-room d T.origin F s (length stack₀) mem stack height laid left G pos k e entries g r
+      module _ (k : ℕ) (e : k ≡ handle_index word) (entries : List ℕ) (g : entries ≡ list_in (decode d mem) children k) (r : d.limits.nodes ≤ length words) where
+        pub turn-room : length entries ≤ length (popped stack).free
+        turn-room = growing.stack-room d T.origin F s (length words) mem stack laid left G word top k e entries g r
 
-        pub turn-next : (stack' : List ℕ) (height' : ℕ) → height' ≡ height - 1 + length entries → stack' ≡ put (height - 1) (reverse entries) stack
-            → (mem' : List ℕ) (laid' : Lengths) → Copies d mem mem' laid' (node_laid (decode d mem) (copies_in d mem laid) (get_or stack (height - 1) 0))
-            → TreeTurn mem' stack' height' laid' (left - 1)
-        turn-next stack' height' a p mem' laid' C = record {
-          size = C.size ∙ I.size;
-          same-room = next.same-room;
-          grows = λ o F i S. growing.growing-next d o F i (length stack₀) mem stack height laid left (I.grows o F i S) pos k e entries g r stack' height' a p mem' laid' C;
+        pub turn-next : (stack' : Stacked) → stack' ≡ pushed entries (popped stack)
+            → (mem' : List ℕ) (laid' : Lengths) → Copies d mem mem' laid' (node_laid (decode d mem) (copies_in d mem laid) word)
+            → TreeTurn mem' stack' laid' (left - 1)
+        turn-next stack' p mem' laid' C = record {
+          grows = λ o F i S. growing.growing-next d o F i (length words) mem stack laid left (I.grows o F i S) word top k e entries g r stack' p mem' laid' C;
         }
-          where
-            next : Growing d T.origin F s (length stack₀) mem' stack' height' laid' (left - 1)
-            next = growing.growing-next d T.origin F s (length stack₀) mem stack height laid left G pos k e entries g r stack' height' a p mem' laid' C
 
-    pub turn_last : height ≤ 0 → NextLaid d mem₀ mem s laid₀ laid
+    pub turn_last : None ≡ slice_get stack.entries 0 → NextLaid d mem₀ mem s laid₀ laid
     turn_last z = λ o A.
-        growing.growing-last d o (from-rules d o mem₀ s laid₀ A) s (length stack₀) mem stack height laid left
-        (I.grows o (from-rules d o mem₀ s laid₀ A) s (started d o mem₀ s laid₀ A T.live T.top (get_or stack₀ 0 0) h)) z
+        growing.growing-last d o (from-rules d o mem₀ s laid₀ A) s (length words) mem stack laid left
+        (I.grows o (from-rules d o mem₀ s laid₀ A) s (started d o mem₀ s laid₀ A T.live T.top (handle_at (decode d mem₀) s) refl)) z
         (sym (live-before d o mem₀ s laid₀ A) ∙ T.live) (sym (parent-before d o mem₀ s laid₀ A) ∙ T.top)
 
 -- ---- slot by slot
 
-none_of : (o : Option ℕ) → is_none o ≡ true → o ≡ none
-none_of none e = refl
-none_of (some p) e = absurd (false≢true e)
+none_of : (o : Option ℕ) → is_none o ≡ true → o ≡ None
+none_of None e = refl
+none_of (Some p) e = absurd (false≢true e)
 
 module _ (d : Document) (o mem : List ℕ) (s : ℕ) (used : Lengths) (T : TreesLaid d o mem s used) (t : Bool) (q : t ≡ (live_slot (decode d mem) s && is_none (parent_in (decode d mem) s))) where
   pub tree-ahead : t ≡ true → TreeAhead d mem s used

@@ -1,6 +1,5 @@
 -- Arenas being rebuilt in place: the copies of lists stand in the capacity words, so that the ids can be read until the end.
-use Rattle.std.specs.Prelude.{◌≡◌, true, cond, List, [], ◌∷◌, ℕ, suc, ◌+◌, ◌≤◌, length, get_or, drop}
-use Rattle.std.proofs.Math.Option.{none}
+use Rattle.std.specs.Prelude.{◌≡◌, true, cond, List, [], ◌∷◌, ℕ, suc, ◌+◌, ◌≤◌, length, get_or, drop, None}
 use Rattle.words.specs.Lists.{joined, keep, tabulate}
 use Rattle.blocks.specs.Arena.{Arena, Block, arena_words}
 use Rattle.blocks.specs.Compact.{copied}
@@ -93,7 +92,7 @@ lengths_rebuilt d used = with_lengths d used.children used.attributes used.names
 
 -- of rule 1: a slot of an even generation has a node
 abbrev pub NodesEven : Doc → Type 0
-NodesEven d = (i : ℕ) → even (generation_at d i) ≡ true → is_some (get_or d.kinds i none) ≡ true
+NodesEven d = (i : ℕ) → even (generation_at d i) ≡ true → is_some (get_or d.kinds i None) ≡ true
 
 -- the live nodes without a parent in the first n slots, and the nodes of their trees
 abbrev pub tops_below : Doc → ℕ → List ℕ
@@ -114,7 +113,7 @@ pub record TreeAhead (d : Document) (mem : List ℕ) (n : ℕ) (used : Lengths) 
   pub origin : List ℕ
   pub trees : TreesLaid d origin mem n used
   pub live : live_slot (decode d mem) n ≡ true
-  pub top : parent_in (decode d mem) n ≡ none
+  pub top : parent_in (decode d mem) n ≡ None
 
 -- what laying the tree of a slot, if it has one, promises
 abbrev pub NextLaid : Document → List ℕ → List ℕ → ℕ → Lengths → Lengths → Type 0

@@ -20,37 +20,36 @@ pub struct Lengths {
     pub namespaces: usize,
 }
 
-// The length in one arena.
-pub fn length_in(used: Lengths, arena: Arena) -> usize
-    ensures { result ≡ length_of used (which_of arena) }
-{
-    match arena {
-        Arena::Children => used.children,
-        Arena::Attributes => used.attributes,
-        Arena::Namespaces => used.namespaces,
+impl Lengths {
+    // The length in one arena.
+    pub fn of(self, arena: Arena) -> usize
+        ensures { result ≡ length_of self (which_of arena) }
+    {
+        match arena {
+            Arena::Children => self.children,
+            Arena::Attributes => self.attributes,
+            Arena::Namespaces => self.namespaces,
+        }
     }
-}
 
-// Another length in one arena.
-fn with_length(used: Lengths, arena: Arena, count: usize) -> Lengths
-    ensures { result ≡ with_length used (which_of arena) count }
-{
-    match arena {
-        Arena::Children => Lengths {
-            children: count,
-            attributes: used.attributes,
-            namespaces: used.namespaces,
-        },
-        Arena::Attributes => Lengths {
-            children: used.children,
-            attributes: count,
-            namespaces: used.namespaces,
-        },
-        Arena::Namespaces => Lengths {
-            children: used.children,
-            attributes: used.attributes,
-            namespaces: count,
-        },
+    // Another length in one arena.
+    fn with(self, arena: Arena, count: usize) -> Lengths
+        ensures { result ≡ with_length self (which_of arena) count }
+    {
+        match arena {
+            Arena::Children => Lengths {
+                children: count,
+                ..self
+            },
+            Arena::Attributes => Lengths {
+                attributes: count,
+                ..self
+            },
+            Arena::Namespaces => Lengths {
+                namespaces: count,
+                ..self
+            },
+        }
     }
 }
 
@@ -60,14 +59,14 @@ fn lay_list(d: Document, mem: &mut [u64], slot: NodeSlot, arena: Arena, used: Le
     ensures { Copies d mem.old mem.new result (list_laid (decode d mem.old) (copies_in d mem.old used) (which_of arena) slot.0) }
 {
     let block = live_block(d, &mem[..], slot, arena);
-    let start = length_in(used, arena);
+    let start = used.of(arena);
     copy_block(d, mem, arena, start, block);
     let range = Range {
         start: start as u32,
         len: block.len,
     };
     put_range(d, mem, slot, arena, range);
-    with_length(used, arena, start + block.len as usize)
+    used.with(arena, start + block.len as usize)
 }
 
 // Lays the lists of the node of a handle: attributes and namespaces only elements have.

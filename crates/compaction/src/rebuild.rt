@@ -11,7 +11,7 @@ ghost use Rattle.memory.specs.Step.{Step};
 ghost use Rattle.memory.specs.Performed.{Performed};
 ghost use Rattle.compaction.specs.Copies.{length_of, arena_replaced, arenas_replaced, lengths_rebuilt};
 
-use crate::copy::{Lengths, length_in};
+use crate::copy::Lengths;
 use crate::trees::lay_trees;
 use layout::{Arena, Document};
 use walks::order::renew_order;
@@ -21,8 +21,7 @@ fn replace_blocks(d: Document, mem: &mut [u64], arena: Arena, used: Lengths)
     requires { (memory_ok d (length mem.old) ≡ true) × (length_of used (which_of arena) ≤ entries_of d.limits (which_of arena)) }
     ensures { mem.new ≡ arena_replaced d (which_of arena) used mem.old }
 {
-    let count = length_in(used, arena);
-    memory::parts::replace_blocks(d, mem, arena, count);
+    memory::parts::replace_blocks(d, mem, arena, used.of(arena));
 }
 
 // The record with the new lengths of the arenas.

@@ -1,8 +1,9 @@
 -- From any position, whatever happens between the steps, a walk lists only nodes that resolve, N at most; a stale start lists nothing.
 -- Assumes nothing.
+use Rattle.std.specs.Prelude.{Some, None, Result, Ok, Err, Option}
+use Rattle.std.specs.declared.ops.ControlFlow.TheVariants.{Continue, Break}
 use mathlib.Core.Path.{◌≡◌, refl, sym, ap, ◌∙◌}
 use mathlib.Core.Bool.{Bool, true, false, cond, ◌&&◌}
-use mathlib.Core.Option.{Option, none, some}
 use mathlib.Core.List.{List, [], ◌∷◌}
 use Prim.Native.Nat.{ℕ, zero, suc, ◌+◌, ◌-◌, ◌≤◌, ◌<◌, min}
 use native.Mathlib.Omega.{arith}
@@ -12,33 +13,36 @@ use lib.ListN.{length, get_or}
 use Rattle.words.specs.Lists.{all}
 use Rattle.words.proofs.Tests.{and_left}
 use Rattle.model.specs.Kinds.{children}
+use Rattle.model.specs.declared.Refusal.{Refusal}
 use Rattle.model.specs.declared.Refusal.TheVariants.{BadBuffers}
 use Rattle.layout.specs.declared.Document.{Document}
 use Rattle.layout.specs.Layout.{memory_ok}
 use Rattle.memory.specs.Decode.{decode}
 use Rattle.model.specs.Doc.{Doc, resolves, parent_at, shown_list, any_option, map_option}
 use Rattle.steps.specs.declared.position.Position.{Position}
-use Rattle.steps.specs.declared.position.Walked.{Walked}
-use Rattle.steps.specs.declared.position.Walked.TheVariants.{At, End}
-use Rattle.steps.specs.declared.step.Sought.TheVariants as seeks
-use Rattle.descendants.specs.declared.walk.NextAnswer.{NextAnswer}
-use Rattle.descendants.specs.declared.walk.NextAnswer.TheVariants as nextAnswer
-use Rattle.steps.specs.Next.{hint_for, with_hint, hinted_index, names_parent, visit_entry, outcome, seek_under, parent_below, seek, resumed, following, successor, next, start}
+use Rattle.steps.specs.declared.step.Above.{Above}
+use Rattle.steps.specs.Next.{hint_for, with_hint, hinted_index, names_parent, visit_entry, seek_under, parent_below, seek, resumed, following, successor, next, start}
 use Rattle.descendants.specs.Walking.{listed, list_from, walked, more, looked_under, looked}
-use Rattle.descendants.specs.Contract.{starts_of, told, next_of, nodes_of, next_until_end, walk_of}
+use Rattle.descendants.specs.Contract.{starts_of, next_of, nodes_of, next_until_end, walk_of}
 use Rattle.descendants.specs.Claim.{StaleStart, Lent, Seen, seen, along, Limited, FromAnywhere, OneStep}
 
--- what a step that goes on tells
-abbrev Tells : Doc → Position → Walked → Type 0
-Tells d p w = (q : Position) → w ≡ At q → (resolves d q.node ≡ true) × (q.left ≡ min p.left d.limits.nodes - 1)
+abbrev Answer : Type 0
+Answer = Result (Option Position) Refusal
 
-end-tells : (d : Doc) (p : Position) → Tells d p End
+abbrev above_at : ℕ → ℕ → Above
+above_at q r = record { node = q; room = r }
+
+-- what a step that goes on tells
+abbrev Tells : Doc → Position → Option Position → Type 0
+Tells d p w = (q : Position) → w ≡ Some q → (resolves d q.node ≡ true) × (q.left ≡ min p.left d.limits.nodes - 1)
+
+end-tells : (d : Doc) (p : Position) → Tells d p None
 end-tells d p q e = absurd (let z : ◌≡◌ {A = ℕ} 0 1 = cc in omega arith)
 
 names-resolves : (d : Doc) (q y : ℕ) → names_parent d q y ≡ true → resolves d y ≡ true
 names-resolves d q y = go (resolves d y)
   where
-    go : (b : Bool) → any_option (eqb q) (cond b (parent_at d y) none) ≡ true → b ≡ true
+    go : (b : Bool) → any_option (eqb q) (cond b (parent_at d y) None) ≡ true → b ≡ true
     go true e = refl
     go false e = e
 
@@ -48,10 +52,10 @@ visit-tells d p q l k = go (names_parent d q (get_or l k 0)) refl
     to : Position
     to = record { zone = p.zone; node = get_or l k 0; hints = with_hint p.hints (length l) k; left = min p.left d.limits.nodes - 1 }
 
-    same : (v : Position) → At to ≡ At v → to ≡ v
+    same : (v : Position) → Some to ≡ Some v → to ≡ v
     same v e = cc
 
-    go : (b : Bool) → names_parent d q (get_or l k 0) ≡ b → Tells d p (cond b (At to) End)
+    go : (b : Bool) → names_parent d q (get_or l k 0) ≡ b → Tells d p (cond b (Some to) None)
     go true r v e =
         let z = same v e in
         (ap (λ (x : Position). resolves d x.node) (sym z) ∙ names-resolves d q (get_or l k 0) r, ap (λ (x : Position). x.left) (sym z))
@@ -62,22 +66,22 @@ unfolding seek
 following-tells zero room d p x = end-tells d p
 following-tells (suc f) room d p x = go (λ q rest. following-tells f rest d p q) (parent_below d p x)
   where
-    above : ℕ → ℕ → Walked
+    above : ℕ → ℕ → Option Position
     above q rest = following f rest d p q
 
-    found : (w : Walked) → Tells d p w → Tells d p (resumed above (outcome w))
-    found End h = h
-    found (At v) h = h
+    found : (w : Option Position) → Tells d p w → Tells d p (resumed above (Break w))
+    found None h = h
+    found (Some v) h = h
 
     under : ((q rest : ℕ) → Tells d p (following f rest d p q)) → (q : ℕ) (l : List ℕ) (k : ℕ) (b c : Bool)
-        → Tells d p (resumed above (cond b (cond c (outcome (visit_entry d p q l (suc k))) (seeks.Above q (room - length l))) seeks.End))
+        → Tells d p (resumed above (cond b (cond c (Break (visit_entry d p q l (suc k))) (Continue (above_at q (room - length l)))) (Break None)))
     under ih q l k true true = found (visit_entry d p q l (suc k)) (visit-tells d p q l (suc k))
     under ih q l k true false = ih q (room - length l)
     under ih q l k false c = end-tells d p
 
     go : ((q rest : ℕ) → Tells d p (following f rest d p q)) → (o : Option ℕ) → Tells d p (resumed above (seek_under room d p x o))
-    go ih none = end-tells d p
-    go ih (some q) =
+    go ih None = end-tells d p
+    go ih (Some q) =
         let l : List ℕ = shown_list d children q in
         let k : ℕ = hinted_index l x (hint_for p.hints (length l)) in
         under ih q l k (resolves d q && leb (length l) room) (ltb (suc k) (length l))
@@ -88,34 +92,34 @@ next-tells d p = go (ltb 0 (min p.left d.limits.nodes) && resolves d p.node) (lt
     l : List ℕ
     l = shown_list d children p.node
 
-    go : (b c : Bool) → Tells d p (cond b (cond c (visit_entry d p p.node l 0) (following (length d.gens) (length d.gens) d p p.node)) End)
+    go : (b c : Bool) → Tells d p (cond b (cond c (visit_entry d p p.node l 0) (following (length d.gens) (length d.gens) d p p.node)) None)
     go true true = visit-tells d p p.node l 0
     go true false = following-tells (length d.gens) (length d.gens) d p p.node
     go false c = end-tells d p
 
 -- a step that goes on may
-next-may : (d : Doc) (p q : Position) → next d p ≡ At q → 0 < min p.left d.limits.nodes
+next-may : (d : Doc) (p q : Position) → next d p ≡ Some q → 0 < min p.left d.limits.nodes
 next-may d p q e = go (ltb 0 (min p.left d.limits.nodes) && resolves d p.node) refl e
   where
     l : List ℕ
     l = shown_list d children p.node
 
     go : (b : Bool) → (ltb 0 (min p.left d.limits.nodes) && resolves d p.node) ≡ b
-        → cond b (cond (ltb 0 (length l)) (visit_entry d p p.node l 0) (following (length d.gens) (length d.gens) d p p.node)) End ≡ At q → 0 < min p.left d.limits.nodes
+        → cond b (cond (ltb 0 (length l)) (visit_entry d p p.node l 0) (following (length d.gens) (length d.gens) d p p.node)) None ≡ Some q → 0 < min p.left d.limits.nodes
     go true r f = ltb-true 0 (min p.left d.limits.nodes) (and_left (ltb 0 (min p.left d.limits.nodes)) (resolves d p.node) r)
     go false r f = absurd (let z : ◌≡◌ {A = ℕ} 0 1 = cc in omega arith)
 
 -- a call that lists a node made the step
-next-called : (d : Document) (mem : List ℕ) (p q : Position) → next_of d mem p ≡ nextAnswer.At q → next (decode d mem) p ≡ At q
+next-called : (d : Document) (mem : List ℕ) (p q : Position) → next_of d mem p ≡ Ok (Some q) → next (decode d mem) p ≡ Some q
 unfolding next_of
 next-called d mem p q = go (memory_ok d (length mem)) (next (decode d mem) p)
   where
-    same : (v : Position) → nextAnswer.At v ≡ nextAnswer.At q → v ≡ q
+    same : (v : Position) → ◌≡◌ {A = Answer} (Ok (Some v)) (Ok (Some q)) → v ≡ q
     same v e = cc
 
-    go : (b : Bool) (w : Walked) → cond b (told w) (nextAnswer.Refused BadBuffers) ≡ nextAnswer.At q → w ≡ At q
-    go true (At v) e = ap At (same v e)
-    go true End e = absurd (let z : ◌≡◌ {A = ℕ} 0 1 = cc in omega arith)
+    go : (b : Bool) (w : Option Position) → cond b (Ok w) (Err BadBuffers) ≡ Ok (Some q) → w ≡ Some q
+    go true (Some v) e = ap Some (same v e)
+    go true None e = absurd (let z : ◌≡◌ {A = ℕ} 0 1 = cc in omega arith)
     go false w e = absurd (let z : ◌≡◌ {A = ℕ} 0 1 = cc in omega arith)
 
 module _ (n : ℕ) where
@@ -126,11 +130,11 @@ module _ (n : ℕ) where
       D : Doc
       D = decode m.document m.memory
 
-      go : (r : NextAnswer) → next_of m.document m.memory p ≡ r → ((q : Position) → length (along ms q) ≤ min q.left n)
+      go : (r : Answer) → next_of m.document m.memory p ≡ r → ((q : Position) → length (along ms q) ≤ min q.left n)
           → length (seen D (λ q. along ms q) r) ≤ min p.left n
-      go nextAnswer.End e ih = omega arith
-      go (nextAnswer.Refused w) e ih = omega arith
-      go (nextAnswer.At q) e ih =
+      go (Ok None) e ih = omega arith
+      go (Err w) e ih = omega arith
+      go (Ok (Some q)) e ih =
           let s = next-called m.document m.memory p q e in
           omega (arith, ih q, (next-tells D p q s).1, next-may D p q s, h.0)
 
@@ -147,10 +151,10 @@ only-resolving (m ∷ ms) p = go (next_of m.document m.memory p) refl (λ q. onl
     D : Doc
     D = decode m.document m.memory
 
-    go : (r : NextAnswer) → next_of m.document m.memory p ≡ r → ((q : Position) → all resolving (along ms q) ≡ true) → all resolving (seen D (λ q. along ms q) r) ≡ true
-    go nextAnswer.End e ih = refl
-    go (nextAnswer.Refused w) e ih = refl
-    go (nextAnswer.At q) e ih = rw (next-tells D p q (next-called m.document m.memory p q e)).0 (ih q)
+    go : (r : Answer) → next_of m.document m.memory p ≡ r → ((q : Position) → all resolving (along ms q) ≡ true) → all resolving (seen D (λ q. along ms q) r) ≡ true
+    go (Ok None) e ih = refl
+    go (Err w) e ih = refl
+    go (Ok (Some q)) e ih = rw (next-tells D p q (next-called m.document m.memory p q e)).0 (ih q)
 
 pub from-anywhere : FromAnywhere
 from-anywhere n ms p h = (at_most n ms p h, only-resolving ms p)
@@ -161,26 +165,26 @@ module _ (d : Document) (mem : List ℕ) (ok : memory_ok d (length mem) ≡ true
   abbrev D : Doc
   D = decode d mem
 
-  next-answers : (p : Position) → next_of d mem p ≡ told (next D p)
+  next-answers : (p : Position) → next_of d mem p ≡ Ok (next D p)
   unfolding next_of
-  next-answers p = ap (λ (b : Bool). cond b (told (next D p)) (nextAnswer.Refused BadBuffers)) ok
+  next-answers p = ap (λ (b : Bool). cond b (Ok (next D p)) (Err BadBuffers)) ok
 
   -- as many calls as may list a node, and one more, reach it
-  pub until_end : (n : ℕ) (p : Position) → min p.left d.limits.nodes ≤ n → next_until_end (suc n) d mem p ≡ some (list_from n D p)
-  until_end zero p h = ap (nodes_of (λ q. none)) (next-answers p) ∙ go (next D p) refl
+  pub until_end : (n : ℕ) (p : Position) → min p.left d.limits.nodes ≤ n → next_until_end (suc n) d mem p ≡ Some (list_from n D p)
+  until_end zero p h = ap (nodes_of (λ q. None)) (next-answers p) ∙ go (next D p) refl
     where
-      go : (w : Walked) → next D p ≡ w → nodes_of (λ q. none) (told w) ≡ some []
-      go End e = refl
-      go (At q) e = absurd (omega (arith, h, next-may D p q e))
+      go : (w : Option Position) → next D p ≡ w → nodes_of (λ q. None) (Ok w) ≡ Some []
+      go None e = refl
+      go (Some q) e = absurd (omega (arith, h, next-may D p q e))
   until_end (suc n) p h = ap (nodes_of (λ q. next_until_end (suc n) d mem q)) (next-answers p) ∙ go (λ q r. until_end n q r) (next D p) refl
     where
-      go : ((q : Position) → min q.left d.limits.nodes ≤ n → next_until_end (suc n) d mem q ≡ some (list_from n D q)) → (w : Walked) → next D p ≡ w
-          → nodes_of (λ q. next_until_end (suc n) d mem q) (told w) ≡ some (listed (λ q. list_from n D q) w)
-      go ih End e = refl
-      go ih (At q) e = ap (map_option (λ l. q.node ∷ l)) (ih q (omega (arith, h, (next-tells D p q e).1, next-may D p q e)))
+      go : ((q : Position) → min q.left d.limits.nodes ≤ n → next_until_end (suc n) d mem q ≡ Some (list_from n D q)) → (w : Option Position) → next D p ≡ w
+          → nodes_of (λ q. next_until_end (suc n) d mem q) (Ok w) ≡ Some (listed (λ q. list_from n D q) w)
+      go ih None e = refl
+      go ih (Some q) e = ap (map_option (λ l. q.node ∷ l)) (ih q (omega (arith, h, (next-tells D p q e).1, next-may D p q e)))
 
   -- by its calls a walk lists what `list_below` writes
-  pub by-calls : (h : ℕ) → walk_of d mem h ≡ some (walked D h)
+  pub by-calls : (h : ℕ) → walk_of d mem h ≡ Some (walked D h)
   unfolding starts_of
   by-calls h = rw ok (until_end d.limits.nodes (start d.limits.nodes h) (omega arith))
 
@@ -189,14 +193,14 @@ module _ (d : Document) (mem : List ℕ) (ok : memory_ok d (length mem) ≡ true
 pub from-stale : (d : Doc) (h : ℕ) → resolves d h ≡ false → (n : ℕ) → list_from n d (start d.limits.nodes h) ≡ []
 from-stale d h r zero = refl
 from-stale d h r (suc n) =
-    ap (λ (b : Bool). listed (λ q. list_from n d q) (cond b (successor d (start d.limits.nodes h)) End)) (both (ltb 0 (min d.limits.nodes d.limits.nodes)) (resolves d h) r)
+    ap (λ (b : Bool). listed (λ q. list_from n d q) (cond b (successor d (start d.limits.nodes h)) None)) (both (ltb 0 (min d.limits.nodes d.limits.nodes)) (resolves d h) r)
   where
     both : (a b : Bool) → b ≡ false → (a && b) ≡ false
     both true b e = e
     both false b e = refl
 
 pub stale-start : StaleStart
-stale-start d mem h ok r = let e = from-stale (decode d mem) h r d.limits.nodes in (by-calls d mem ok h ∙ ap some e, e)
+stale-start d mem h ok r = let e = from-stale (decode d mem) h r d.limits.nodes in (by-calls d mem ok h ∙ ap Some e, e)
 
 -- ---- one step
 
@@ -208,12 +212,12 @@ looked-within (suc f) room d p x = go (λ q rest. looked-within f rest d p q) (p
     above : ℕ → ℕ → ℕ
     above q rest = looked f rest d p q
 
-    found : (n : ℕ) (w : Walked) → n + more above (outcome w) ≡ n
-    found n End = omega arith
-    found n (At v) = omega arith
+    found : (n : ℕ) (w : Option Position) → n + more above (Break w) ≡ n
+    found n None = omega arith
+    found n (Some v) = omega arith
 
-    under : ((q rest : ℕ) → looked f rest d p q ≤ rest) → (q n : ℕ) (w : Walked) (s b c : Bool) → leb n room ≡ b
-        → cond b n 0 + more above (cond (s && b) (cond c (outcome w) (seeks.Above q (room - n))) seeks.End) ≤ room
+    under : ((q rest : ℕ) → looked f rest d p q ≤ rest) → (q n : ℕ) (w : Option Position) (s b c : Bool) → leb n room ≡ b
+        → cond b n 0 + more above (cond (s && b) (cond c (Break w) (Continue (above_at q (room - n)))) (Break None)) ≤ room
     under ih q n w true true true e = omega (arith, leb-true n room e, found n w)
     under ih q n w true true false e = omega (arith, leb-true n room e, ih q (room - n))
     under ih q n w true false c e = omega arith
@@ -221,8 +225,8 @@ looked-within (suc f) room d p x = go (λ q rest. looked-within f rest d p q) (p
     under ih q n w false false c e = omega arith
 
     go : ((q rest : ℕ) → looked f rest d p q ≤ rest) → (o : Option ℕ) → looked_under room d o + more above (seek_under room d p x o) ≤ room
-    go ih none = omega arith
-    go ih (some q) =
+    go ih None = omega arith
+    go ih (Some q) =
         let l : List ℕ = shown_list d children q in
         let k : ℕ = hinted_index l x (hint_for p.hints (length l)) in
         under ih q (length l) (visit_entry d p q l (suc k)) (resolves d q) (leb (length l) room) (ltb (suc k) (length l)) refl

@@ -3,6 +3,5 @@ pub mod Stack
 pub mod Walks
 pub mod Anywhere
 pub mod Listing
-pub mod Answered
 pub mod InOrder
 pub mod Claim

@@ -1,5 +1,6 @@
 -- The walk written into a lent list, step by step.
 -- Assumes nothing.
+use Rattle.std.specs.Prelude.{Some, None, Ok, Err, Option}
 use mathlib.Core.Path.{◌≡◌, refl, sym, ap, ◌∙◌}
 use mathlib.Core.Bool.{Bool, true, false}
 use mathlib.Core.List.{List, [], ◌∷◌, ◌++◌, append-nil, append_assoc}
@@ -9,16 +10,13 @@ use borrow.Author.Tests.{lt-ltb}
 use lib.ListN.{length, set, length-append}
 use Rattle.words.specs.Parts.{put}
 use Rattle.words.proofs.Parts.{put-nil, set-put-after}
+use Rattle.model.specs.declared.Refusal.{Refusal}
 use Rattle.model.specs.declared.Refusal.TheVariants.{BadBuffers}
 use Rattle.model.specs.Doc.{Doc, resolves}
 use Rattle.layout.specs.declared.Document.{Document}
 use Rattle.memory.specs.Decode.{decode}
-use Rattle.reading.specs.declared.answers.NodesAnswer.{NodesAnswer}
-use Rattle.reading.specs.declared.answers.NodesAnswer.TheVariants.{Count, Refused}
 use Rattle.reading.specs.Contract.{nodes_ok}
 use Rattle.steps.specs.declared.position.Position.{Position}
-use Rattle.steps.specs.declared.position.Walked.{Walked}
-use Rattle.steps.specs.declared.position.Walked.TheVariants.{At, End}
 use Rattle.steps.specs.Next.{successor, next, start}
 use Rattle.descendants.specs.Walking.{listed, list_from, walked}
 use Rattle.descendants.specs.Contract.{count_below, written_below}
@@ -62,24 +60,21 @@ module _ (D : Doc) (all out₀ : List ℕ) where
         let q : all ≡ L.so_far = L.rest ∙ ap (λ (l : List ℕ). L.so_far ++ l) e ∙ append-nil L.so_far in
         (sym L.counted ∙ ap length (sym q), L.written ∙ ap (λ (l : List ℕ). put 0 l out₀) (sym q))
 
-    pub listing_full : n ≤ count → (count ≡ length all) × (out ≡ put 0 all out₀)
-    listing_full h = done (ap (λ (k : ℕ). list_from k D at) (let z : n - count ≡ 0 = omega arith in z))
-
     module _ (h : count < n) where
       pub listing-may : 0 < min at.left n
       listing-may = omega (arith, h, L.left)
 
-      module _ (w : Walked) (e : w ≡ successor D at) where
+      module _ (w : Option Position) (e : w ≡ successor D at) where
         went : next D at ≡ w
         went = live-next D at listing-may L.lives ∙ sym e
 
         go_on : list_from (n - count) D at ≡ listed (λ q. list_from (n - (count + 1)) D q) w
         go_on = ap (λ (k : ℕ). list_from k D at) (let z : n - count ≡ suc (n - (count + 1)) = omega arith in z) ∙ ap (listed (λ q. list_from (n - (count + 1)) D q)) went
 
-        pub listing-ends : w ≡ End → (count ≡ length all) × (out ≡ put 0 all out₀)
+        pub listing-ends : w ≡ None → (count ≡ length all) × (out ≡ put 0 all out₀)
         listing-ends f = done (go_on ∙ ap (listed (λ q. list_from (n - (count + 1)) D q)) f)
 
-        pub listing-turn : (q : Position) → w ≡ At q → n ≤ length out₀ → Listing q (count + 1) (set out count q.node)
+        pub listing-turn : (q : Position) → w ≡ Some q → n ≤ length out₀ → Listing q (count + 1) (set out count q.node)
         listing-turn q f room =
             let t = next-tells D at q (went ∙ f) in
             record {
@@ -109,12 +104,12 @@ stale-written D h t e f out =
 
 -- ---- the call
 
-module _ (d : Document) (mem : List ℕ) (h : ℕ) (out : List ℕ) (t : Bool) (e : t ≡ nodes_ok d mem out) where
-  pub list-refused : t ≡ false → (Refused BadBuffers ≡ count_below d mem h out) × (out ≡ written_below d mem h out)
+module _ (d : Document) (mem : List ℕ) (h : ℕ) (out : List ℕ) where
+  pub list-refused : (why : Refusal) → (nodes_ok d mem out ≡ false) × (why ≡ BadBuffers) → (Err why ≡ count_below d mem h out) × (out ≡ written_below d mem h out)
   unfolding count_below written_below
-  list-refused f = (sym (rw (← e, f)), sym (rw (← e, f)))
+  list-refused why f = (rw (f.0, f.1) refl, rw f.0 refl)
 
-  pub list_written : t ≡ true → (n : ℕ) (after : List ℕ) → (n ≡ length (walked (decode d mem) h)) × (after ≡ put 0 (walked (decode d mem) h) out)
-      → (Count n ≡ count_below d mem h out) × (after ≡ written_below d mem h out)
+  pub list_written : nodes_ok d mem out ≡ true → (n : ℕ) (after : List ℕ) → (n ≡ length (walked (decode d mem) h)) × (after ≡ put 0 (walked (decode d mem) h) out)
+      → (Ok n ≡ count_below d mem h out) × (after ≡ written_below d mem h out)
   unfolding count_below written_below
-  list_written f n after w = (ap {B = NodesAnswer} Count w.0 ∙ sym (rw (← e, f)), w.1 ∙ sym (rw (← e, f)))
+  list_written y n after w = (rw (y, w.0) refl, w.1 ∙ sym (rw y))

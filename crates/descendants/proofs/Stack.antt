@@ -1,9 +1,9 @@
 -- What is still to be listed behind a node of the walk, as the source's stack holds it.
 -- Assumes nothing.
+use Rattle.std.specs.Prelude.{Some}
 use mathlib.Core.Path.{◌≡◌}
 use mathlib.Core.Logic.{◌≢◌}
 use mathlib.Core.Bool.{true}
-use mathlib.Core.Option.{some}
 use mathlib.Core.List.{List, [], ◌++◌}
 use Prim.Native.Nat.{ℕ}
 use native.Mathlib.Omega.{arith}
@@ -20,7 +20,7 @@ module _ (t : Tree) (z : ℕ) where
   up {y} (Below.down p e r) = behind y (t.lists children p) ++ up r
 
 -- a node below z is another
-pub strict : {t : Tree} → WF t → (z x p : ℕ) → t.live z ≡ true → t.live p ≡ true → t.parent x ≡ some p → Below t.parent z p → x ≢ z
+pub strict : {t : Tree} → WF t → (z x p : ℕ) → t.live z ≡ true → t.live p ≡ true → t.parent x ≡ Some p → Below t.parent z p → x ≢ z
 strict {t} W z x p lz lp e r q =
     let rz = W.ends z lz in
     let rp = W.ends p lp in

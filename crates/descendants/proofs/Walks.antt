@@ -1,9 +1,11 @@
 -- The walk from position to position lists what the source's walk with a stack lists.
 -- Assumes nothing.
+use Rattle.std.proofs.lemmas.Option.{same_Some}
+use Rattle.std.specs.Prelude.{Some, None, Option}
+use Rattle.std.specs.declared.ops.ControlFlow.TheVariants.{Continue, Break}
 use mathlib.Core.Path.{◌≡◌, refl, sym, ap, ap₂, ◌∙◌, subst}
 use mathlib.Core.Logic.{◌⊎◌, inl, inr}
 use mathlib.Core.Bool.{Bool, true, false, cond, ◌&&◌}
-use mathlib.Core.Option.{some, some-injective}
 use mathlib.Core.List.{List, [], ◌∷◌, ◌++◌, map, Memᴰ}
 use Prim.Native.Nat.{ℕ, zero, suc, ◌+◌, ◌-◌, ◌≤◌, ◌<◌, min}
 use native.Mathlib.Omega.{arith}
@@ -27,11 +29,7 @@ use Rattle.laws.proofs.Climb.{Below, path, path-distinct, path-live, length-path
 use Rattle.laws.proofs.Cycle.{slots-enough}
 use Rattle.laws.proofs.Walk.{visit, Tall, tall, visited, visit-distinct, walk-is-visit}
 use Rattle.steps.specs.declared.position.Position.{Position}
-use Rattle.steps.specs.declared.position.Walked.{Walked}
-use Rattle.steps.specs.declared.position.Walked.TheVariants.{At, End}
-use Rattle.steps.specs.declared.step.Sought.{Sought}
-use Rattle.steps.specs.declared.step.Sought.TheVariants as seeks
-use Rattle.steps.specs.Next.{hint_for, with_hint, hinted_index, names_parent, visit_entry, outcome, seek, resumed, following, next, start}
+use Rattle.steps.specs.Next.{hint_for, with_hint, hinted_index, names_parent, visit_entry, Sought, seek, resumed, following, next, start}
 use Rattle.descendants.specs.Walking.{listed, list_from, walked, below, descendants}
 use Rattle.descendants.proofs.Hints.{behind, hinted-is, index-map, behind-cons, behind-nil, behind-first}
 use Rattle.descendants.proofs.Stack.{up, strict}
@@ -48,36 +46,32 @@ distinct-count x l u = go (dec_lt 0 (count_of (eqb x) l))
     go (yes c) = let z = count-once x l u (count-mem x l c) in omega arith
     go (no c) = omega arith
 
-resumed-outcome : (above : ℕ → ℕ → Walked) (w : Walked) → resumed above (outcome w) ≡ w
-resumed-outcome above End = refl
-resumed-outcome above (At q) = refl
-
 module _ {d : Doc} {t : Tree} {hs : ℕ → ℕ} (S : Sim d t hs) (W : WF t) (z : ℕ) (lz : t.live z ≡ true) where
   abbrev kids : ℕ → List ℕ
   kids = t.lists children
 
   -- the walk went on to a node below z, and what is behind it is left
-  pub record Went (p : Position) (w : Walked) (l : List ℕ) : Type 0 where
+  pub record Went (p : Position) (w : Option Position) (l : List ℕ) : Type 0 where
     pub to : Position
     pub here : ℕ
     pub way : Below t.parent z here
-    pub is : w ≡ At to
+    pub is : w ≡ Some to
     pub zone : to.zone ≡ p.zone
     pub node : to.node ≡ hs here
     pub count : to.left ≡ min p.left d.limits.nodes - 1
     pub lives : t.live here ≡ true
     pub stack : l ≡ here ∷ up t z way
 
-  abbrev Outcome : Position → Walked → List ℕ → Type 0
-  Outcome p w l = ((w ≡ End) × (l ≡ [])) ⊎ Went p w l
+  abbrev Outcome : Position → Option Position → List ℕ → Type 0
+  Outcome p w l = ((w ≡ None) × (l ≡ [])) ⊎ Went p w l
 
-  other : (p : Position) (w v : Walked) (l m : List ℕ) → w ≡ v → l ≡ m → Outcome p v m → Outcome p w l
-  other p w v l m e f o = subst (λ (x : Walked). Outcome p x l) (sym e) (subst (λ (x : List ℕ). Outcome p v x) (sym f) o)
+  other : (p : Position) (w v : Option Position) (l m : List ℕ) → w ≡ v → l ≡ m → Outcome p v m → Outcome p w l
+  other p w v l m e f o = subst (λ (x : Option Position). Outcome p x l) (sym e) (subst (λ (x : List ℕ). Outcome p v x) (sym f) o)
 
-  kid : (x y : ℕ) → t.live x ≡ true → Memᴰ y (kids x) → (t.live y ≡ true) × (t.parent y ≡ some x)
+  kid : (x y : ℕ) → t.live x ≡ true → Memᴰ y (kids x) → (t.live y ≡ true) × (t.parent y ≡ Some x)
   kid x y lx m = let o = W.downward children x y lx m in (o.0, o.1)
 
-  parent-shown : (x q : ℕ) → t.live x ≡ true → t.parent x ≡ some q → shown_parent d (hs x) ≡ some (hs q)
+  parent-shown : (x q : ℕ) → t.live x ≡ true → t.parent x ≡ Some q → shown_parent d (hs x) ≡ Some (hs q)
   parent-shown x q lx e = rw (resolves-live d t hs S x lx) (S.parent x lx ∙ ap (map_option hs) e)
 
   -- to index k of a live node's children
@@ -100,7 +94,7 @@ module _ {d : Doc} {t : Tree} {hs : ℕ → ℕ} (S : Sim d t hs) (W : WF t) (z 
         stack = ap (λ (m : List ℕ). y ∷ m) (sym e);
       })
 
-  down-up : (q y : ℕ) (e : t.parent y ≡ some q) (r : Below t.parent z q) → up t z (Below.down q e r) ≡ behind y (kids q) ++ up t z r
+  down-up : (q y : ℕ) (e : t.parent y ≡ Some q) (r : Below t.parent z q) → up t z (Below.down q e r) ≡ behind y (kids q) ++ up t z r
   unfolding up
   down-up q y e r = refl
 
@@ -122,7 +116,7 @@ module _ {d : Doc} {t : Tree} {hs : ℕ → ℕ} (S : Sim d t hs) (W : WF t) (z 
       let on : (y : ℕ) → Memᴰ y (path r) → t.live y ≡ true = path-live (nested W) r lx in
       slots-enough S (joined kids (path r))
       (distinct-joined kids (path r) (path-distinct r) (λ k m. W.once children k (on k m))
-      (λ k j y mk mj a b. some-injective k j (sym (kid k y (on k mk) a).1 ∙ (kid j y (on j mj) b).1)))
+      (λ k j y mk mj a b. same_Some k j (sym (kid k y (on k mk) a).1 ∙ (kid j y (on j mj) b).1)))
       (λ y m. let o = mem-joined-cases kids (path r) m in (kid o.0 y (on o.0 o.1) o.2).0)
 
   -- the list of a node itself is the first of them
@@ -131,7 +125,7 @@ module _ {d : Doc} {t : Tree} {hs : ℕ → ℕ} (S : Sim d t hs) (W : WF t) (z 
   own-list {x} (Ends.top e) = omega (arith, length-append (kids x) [])
   own-list {x} (Ends.up q e r) = omega (arith, length-append (kids x) (joined kids (path r)))
 
-  lists-up : (x q : ℕ) (e : t.parent x ≡ some q) (r : Ends t.parent q) → length (joined kids (path (Ends.up q e r))) ≡ length (kids x) + length (joined kids (path r))
+  lists-up : (x q : ℕ) (e : t.parent x ≡ Some q) (r : Ends t.parent q) → length (joined kids (path (Ends.up q e r))) ≡ length (kids x) + length (joined kids (path r))
   unfolding path
   lists-up x q e r = length-append (kids x) (joined kids (path r))
 
@@ -185,11 +179,11 @@ module _ {d : Doc} {t : Tree} {hs : ℕ → ℕ} (S : Sim d t hs) (W : WF t) (z 
       roomy : Roomy (room - length (map hs l)) q
       roomy rq = omega (arith, above rq, fits, length-map l hs)
 
-      above-it : ℕ → ℕ → Walked
+      above-it : ℕ → ℕ → Option Position
       above-it y rest = following f rest d p y
 
       turn : Sought
-      turn = cond (ltb (suc k) (length (map hs l))) (outcome (visit_entry d p (hs q) (map hs l) (suc k))) (seeks.Above (hs q) (room - length (map hs l)))
+      turn = cond (ltb (suc k) (length (map hs l))) (Break (visit_entry d p (hs q) (map hs l) (suc k))) (Continue (record { node = hs q; room = room - length (map hs l) }))
 
       way : following (suc f) room d p (hs x) ≡ resumed above-it turn
       way = rw (not-zone, parent-shown x q lx e, shown, resolves-live d t hs S q lq, le-leb (length (map hs l)) room fits, hint (hint_for p.hints (length (map hs l))))
@@ -200,7 +194,7 @@ module _ {d : Doc} {t : Tree} {hs : ℕ → ℕ} (S : Sim d t hs) (W : WF t) (z 
           let m : suc k < length (map hs l) = omega (arith, length-map l hs, b) in
           let s = behind-cons l x u b in
           other p (resumed above-it turn) (visit_entry d p (hs q) (map hs l) (suc k)) (behind x l ++ up t z r) (get_or l (suc k) 0 ∷ (behind (get_or l (suc k) 0) l ++ up t z r))
-          (rw (lt-ltb (suc k) (length (map hs l)) m) (resumed-outcome above-it (visit_entry d p (hs q) (map hs l) (suc k)))) (ap (λ (v : List ℕ). v ++ up t z r) s) (visits-in p q (suc k) lq r b)
+          (rw (lt-ltb (suc k) (length (map hs l)) m) refl) (ap (λ (v : List ℕ). v ++ up t z r) s) (visits-in p q (suc k) lq r b)
       go ih (no b) =
           let m : length (map hs l) ≤ suc k = omega (arith, length-map l hs, b) in
           let s = behind-nil l x (omega arith) in
@@ -222,7 +216,7 @@ module _ {d : Doc} {t : Tree} {hs : ℕ → ℕ} (S : Sim d t hs) (W : WF t) (z 
       shown : shown_list d children (hs x) ≡ map hs l
       shown = shown-list d t hs S children x lx
 
-      successor : List ℕ → ℕ → Walked
+      successor : List ℕ → ℕ → Option Position
       successor v m = cond (ltb 0 (length v)) (visit_entry d p m v 0) (following (length d.gens) (length d.gens) d p m)
 
       tested : (ltb 0 (min p.left d.limits.nodes) && resolves d (hs x)) ≡ true
@@ -230,8 +224,8 @@ module _ {d : Doc} {t : Tree} {hs : ℕ → ℕ} (S : Sim d t hs) (W : WF t) (z 
 
       way : next d p ≡ successor (map hs l) (hs x)
       way =
-          ap (λ (m : ℕ). cond (ltb 0 (min p.left d.limits.nodes) && resolves d m) (successor (shown_list d children m) m) End) ex
-          ∙ ap (λ (q : Bool). cond q (successor (shown_list d children (hs x)) (hs x)) End) tested
+          ap (λ (m : ℕ). cond (ltb 0 (min p.left d.limits.nodes) && resolves d m) (successor (shown_list d children m) m) None) ex
+          ∙ ap (λ (q : Bool). cond q (successor (shown_list d children (hs x)) (hs x)) None) tested
           ∙ ap (λ (v : List ℕ). successor v (hs x)) shown
 
       go : Dec (0 < length l) → Outcome p (cond (ltb 0 (length (map hs l))) (visit_entry d p (hs x) (map hs l) 0) (following (length d.gens) (length d.gens) d p (hs x))) (kids x ++ up t z r)

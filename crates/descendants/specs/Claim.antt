@@ -1,6 +1,5 @@
 -- The walk under one zone (02, a): after every list of calls, and in memory that no list of calls leaves, over what the calls promise.
-use Rattle.std.specs.Prelude.{◌≡◌, true, false, List, [], ◌∷◌, map, ℕ, suc, ◌≤◌, eqb, length}
-use Rattle.std.proofs.Math.Option.{some}
+use Rattle.std.specs.Prelude.{◌≡◌, true, false, List, [], ◌∷◌, map, ℕ, suc, ◌≤◌, eqb, length, Result, Ok, Err, Some, None, Option}
 use Rattle.words.specs.Lists.{count_of, keep, all}
 use Rattle.words.specs.Parts.{put}
 use Rattle.model.specs.Kinds.{children, which_of, same_which}
@@ -11,12 +10,10 @@ use Rattle.layout.specs.declared.Document.{Document}
 use Rattle.layout.specs.declared.Limits as given
 use Rattle.layout.specs.Layout.{memory_ok}
 use Rattle.memory.specs.Decode.{decode}
-use Rattle.reading.specs.declared.answers.NodesAnswer.TheVariants.{Count}
+use Rattle.model.specs.declared.Refusal.{Refusal}
 use Rattle.tree.specs.Contract.{Starts}
 use Rattle.tree.specs.Claim.{Event, Called, Tells, last_record, last_memory, tree_end}
 use Rattle.steps.specs.declared.position.Position.{Position}
-use Rattle.descendants.specs.declared.walk.NextAnswer.{NextAnswer}
-use Rattle.descendants.specs.declared.walk.NextAnswer.TheVariants as nextAnswer
 use Rattle.descendants.specs.Walking.{descendants, walked, looked}
 use Rattle.descendants.specs.Contract.{next_of, count_below, written_below, walk_of}
 
@@ -24,10 +21,10 @@ use Rattle.descendants.specs.Contract.{next_of, count_below, written_below, walk
 -- the Root or not
 pub record WalksUnder (hs : ℕ → ℕ) (d : Document) (mem : List ℕ) (t : Tree) (b : ℕ) : Type 0 where
   -- by `descendants_of` and then `next` until the end
-  pub steps : walk_of d mem (hs b) ≡ some (map hs (descendants t b))
+  pub steps : walk_of d mem (hs b) ≡ Some (map hs (descendants t b))
   -- by `list_below`, into a list of N words or more
   pub whole : (out : List ℕ) → d.limits.nodes ≤ length out
-      → (count_below d mem (hs b) out ≡ Count (length (descendants t b))) × (written_below d mem (hs b) out ≡ put 0 (map hs (descendants t b)) out)
+      → (count_below d mem (hs b) out ≡ Ok (length (descendants t b))) × (written_below d mem (hs b) out ≡ put 0 (map hs (descendants t b)) out)
   pub once : (h : ℕ) → count_of (eqb h) (map hs (descendants t b)) ≤ 1
   -- "in document order without attributes and namespaces": the plain tree's own order, with what is no child left out
   pub ordered : which_of (t.kind b) ≡ children
@@ -46,7 +43,7 @@ WalkUnderZone =
 abbrev pub StaleStart : Type 0
 StaleStart =
     (d : Document) (mem : List ℕ) (h : ℕ) → memory_ok d (length mem) ≡ true → resolves (decode d mem) h ≡ false
-    → (walk_of d mem h ≡ some []) × (walked (decode d mem) h ≡ [])
+    → (walk_of d mem h ≡ Some []) × (walked (decode d mem) h ≡ [])
 
 -- what a step finds: an edit, or damage, may lie between any two steps
 pub record Lent : Type 0 where
@@ -58,10 +55,10 @@ pub record Seen : Type 0 where
   pub doc : Doc
   pub node : ℕ
 
-abbrev pub seen : Doc → (Position → List Seen) → NextAnswer → List Seen
-seen d more (nextAnswer.At q) = record { doc = d; node = q.node } ∷ more q
-seen d more nextAnswer.End = []
-seen d more (nextAnswer.Refused w) = []
+abbrev pub seen : Doc → (Position → List Seen) → Result (Option Position) Refusal → List Seen
+seen d more (Ok (Some q)) = record { doc = d; node = q.node } ∷ more q
+seen d more (Ok None) = []
+seen d more (Err w) = []
 
 -- the nodes that `next` lists from a position on
 abbrev pub along : List Lent → Position → List Seen

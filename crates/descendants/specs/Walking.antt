@@ -1,16 +1,12 @@
 -- A walk under one node (02, a; `Descendants` of the source): the nodes below it in document order, without attributes and namespaces, itself left out.
-use Rattle.std.specs.Prelude.{cond, List, [], ◌∷◌, ℕ, zero, suc, ◌+◌, leb, length}
-use Rattle.std.proofs.Math.Option.{Option, none, some}
+use Rattle.std.specs.Prelude.{cond, List, [], ◌∷◌, ℕ, zero, suc, ◌+◌, leb, length, Some, None, Option}
+use Rattle.std.specs.declared.ops.ControlFlow.TheVariants.{Continue, Break}
 use Rattle.words.specs.Lists.{joined}
 use Rattle.model.specs.Kinds.{children}
 use Rattle.model.specs.Doc.{Doc, shown_list}
 use Rattle.model.specs.Tree.{Tree}
 use Rattle.steps.specs.declared.position.Position.{Position}
-use Rattle.steps.specs.declared.position.Walked.{Walked}
-use Rattle.steps.specs.declared.position.Walked.TheVariants.{At, End}
-use Rattle.steps.specs.declared.step.Sought.{Sought}
-use Rattle.steps.specs.declared.step.Sought.TheVariants as seeks
-use Rattle.steps.specs.Next.{parent_below, seek, next, start}
+use Rattle.steps.specs.Next.{Sought, parent_below, seek, next, start}
 
 -- ---- the plain tree
 
@@ -24,9 +20,9 @@ descendants t b = below t.births (t.lists children) b
 
 -- ---- a walk
 
-abbrev pub listed : (Position → List ℕ) → Walked → List ℕ
-listed more End = []
-listed more (At q) = q.node ∷ more q
+abbrev pub listed : (Position → List ℕ) → Option Position → List ℕ
+listed more None = []
+listed more (Some q) = q.node ∷ more q
 
 -- the nodes listed from a position on, in n steps
 abbrev pub list_from : ℕ → Doc → Position → List ℕ
@@ -40,14 +36,13 @@ walked d h = list_from d.limits.nodes d (start d.limits.nodes h)
 -- ---- how much one step looks at
 
 abbrev pub more : (ℕ → ℕ → ℕ) → Sought → ℕ
-more up seeks.End = 0
-more up (seeks.At q) = 0
-more up (seeks.Above q room) = up q room
+more up (Break found) = 0
+more up (Continue above) = up above.node above.room
 
 -- the entries of a parent's list, where there is room for it
 abbrev pub looked_under : ℕ → Doc → Option ℕ → ℕ
-looked_under room d none = 0
-looked_under room d (some q) = cond (leb (length (shown_list d children q)) room) (length (shown_list d children q)) 0
+looked_under room d None = 0
+looked_under room d (Some q) = cond (leb (length (shown_list d children q)) room) (length (shown_list d children q)) 0
 
 -- the entries of the lists that `following` looks at
 abbrev pub looked : ℕ → ℕ → Doc → Position → ℕ → ℕ

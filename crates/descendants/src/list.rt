@@ -3,59 +3,53 @@ ghost use Rattle.std.specs.Prelude.{◌≡◌, true, ◌≤◌, length};
 ghost use Rattle.words.specs.Parts.{put};
 ghost use Rattle.records.specs.Handles.{word_of};
 ghost use Rattle.model.specs.Doc.{resolves};
-ghost use Rattle.layout.specs.Layout.{memory_ok};
-ghost use Rattle.memory.specs.Decode.{decode};
+ghost use Rattle.memory.specs.View.{decoded};
 ghost use Rattle.descendants.specs.Walking.{walked};
 ghost use Rattle.descendants.specs.Contract.{count_below, written_below};
 
 use layout::Document;
+use memory::view::View;
 use model::Refusal;
-use reading::answers::NodesAnswer;
+use reading::buffers::listing_view;
 use records::NodeId;
-use steps::position::{Walked, start};
+use records::handle::{id_of, word_of};
+use steps::position::start;
 use steps::step::successor;
 
 // Of a node that resolves; so does each node listed, and no step tests the one before it again.
-fn write_live(d: Document, mem: &[u64], zone: u64, out: &mut [u64]) -> usize
-    requires { (memory_ok d (length mem.now) ≡ true) × (d.limits.nodes ≤ length out.old) × (resolves (decode d mem.now) zone ≡ true) }
-    ensures value { result ≡ length (walked (decode d mem.now) zone) }
-    ensures out_after { out.new ≡ put 0 (walked (decode d mem.now) zone) out.old }
+fn write_live(view: &View<'_>, zone: u64, out: &mut [u64]) -> usize
+    requires { (view.now.document.limits.nodes ≤ length out.old) × (resolves (decoded view.now) zone ≡ true) }
+    ensures value { result ≡ length (walked (decoded view.now) zone) }
+    ensures out_after { out.new ≡ put 0 (walked (decoded view.now) zone) out.old }
 {
-    let l = d.limits;
-    let nodes = l.nodes;
+    let nodes = view.document.limits.nodes;
     let mut at = start(nodes, zone);
-    let mut count = 0;
-    while count < nodes {
-        match successor(d, mem, at, records::handle::id_of(at.node)) {
-            Walked::End => return count,
-            Walked::At(next) => {
-                out[count] = next.node;
-                count += 1;
-                at = next;
-            }
-        }
+    for count in 0..nodes {
+        let Some(next) = successor(view, at, id_of(at.node)) else {
+            return count;
+        };
+        out[count] = next.node;
+        at = next;
     }
-    count
+    nodes
 }
 
-fn write_below(d: Document, mem: &[u64], id: NodeId, out: &mut [u64]) -> usize
-    requires { (memory_ok d (length mem.now) ≡ true) × (d.limits.nodes ≤ length out.old) }
-    ensures value { result ≡ length (walked (decode d mem.now) (word_of id)) }
-    ensures out_after { out.new ≡ put 0 (walked (decode d mem.now) (word_of id)) out.old }
+fn write_below(view: &View<'_>, id: NodeId, out: &mut [u64]) -> usize
+    requires { view.now.document.limits.nodes ≤ length out.old }
+    ensures value { result ≡ length (walked (decoded view.now) (word_of id)) }
+    ensures out_after { out.new ≡ put 0 (walked (decoded view.now) (word_of id)) out.old }
 {
-    if memory::read::resolves(d, mem, id) {
-        return write_live(d, mem, records::handle::word_of(id), out);
+    if view.resolves(id) {
+        write_live(view, word_of(id), out)
+    } else {
+        0
     }
-    0
 }
 
 // Rules out a word written past the last handle, and the node itself among them.
-pub fn list_below(d: Document, mem: &[u64], id: NodeId, out: &mut [u64]) -> NodesAnswer
+pub fn list_below(d: Document, mem: &[u64], id: NodeId, out: &mut [u64]) -> Result<usize, Refusal>
     ensures { (result ≡ count_below d mem.now (word_of id) out.old) × (out.new ≡ written_below d mem.now (word_of id) out.old) }
 {
-    if reading::nodes::nodes_ok(d, mem.len(), out.len()) {
-        NodesAnswer::Count(write_below(d, mem, id, out))
-    } else {
-        NodesAnswer::Refused(Refusal::BadBuffers)
-    }
+    let view = listing_view(d, mem, out)?;
+    Ok(write_below(&view, id, out))
 }

@@ -1,57 +1,30 @@
 // The calls: they test 4 only.
-ghost use Rattle.std.specs.Prelude.{◌≡◌, length};
-ghost use Rattle.descendants.specs.Contract.{told, starts_of, next_of};
+ghost use Rattle.std.specs.Prelude.{◌≡◌};
+ghost use Rattle.descendants.specs.Contract.{starts_of, next_of};
 ghost use Rattle.records.specs.Handles.{word_of};
 
 use layout::Document;
+use memory::view::View;
 use model::Refusal;
 use records::NodeId;
-use steps::position::{Position, Walked, start};
+use records::handle::word_of;
+use steps::position::{Position, start};
 use steps::step::step;
 
-// A position to go on from.
-#[derive(Clone, Copy)]
-pub enum WalkAnswer {
-    From(Position),
-    Refused(Refusal),
-}
-
-// A position at the next node, or that there is none.
-#[derive(Clone, Copy)]
-pub enum NextAnswer {
-    At(Position),
-    End,
-    Refused(Refusal),
-}
-
-fn told(w: Walked) -> NextAnswer
-    ensures { result ≡ told w }
-{
-    match w {
-        Walked::At(p) => NextAnswer::At(p),
-        Walked::End => NextAnswer::End,
-    }
-}
-
-// A walk under a node, which is not listed itself.
-pub fn descendants_of(d: Document, mem: &[u64], id: NodeId) -> WalkAnswer
+// A walk under a node, which is not listed itself: a position to go on from.
+#[tactic(auto, unfolding(crate::specs::Contract::starts_of))]
+pub fn descendants_of(d: Document, mem: &[u64], id: NodeId) -> Result<Position, Refusal>
     ensures { result ≡ starts_of d mem.now (word_of id) }
 {
-    if layout::memory_ok(d, mem.len()) {
-        let l = d.limits;
-        WalkAnswer::From(start(l.nodes, records::handle::word_of(id)))
-    } else {
-        WalkAnswer::Refused(Refusal::BadBuffers)
-    }
+    View::of(d, mem)?;
+    Ok(start(d.limits.nodes, word_of(id)))
 }
 
-// The next node of a walk.
-pub fn next(d: Document, mem: &[u64], at: Position) -> NextAnswer
+// A position at the next node of a walk, or that there is none.
+#[tactic(auto, unfolding(crate::specs::Contract::next_of))]
+pub fn next(d: Document, mem: &[u64], at: Position) -> Result<Option<Position>, Refusal>
     ensures { result ≡ next_of d mem.now at }
 {
-    if layout::memory_ok(d, mem.len()) {
-        told(step(d, mem, at))
-    } else {
-        NextAnswer::Refused(Refusal::BadBuffers)
-    }
+    let view = View::of(d, mem)?;
+    Ok(step(&view, at))
 }

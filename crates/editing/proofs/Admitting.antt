@@ -1,40 +1,41 @@
--- Tests 4 and 5 as they are made.
+-- Tests 4 and 5 as they are made, and what was then found.
 -- Assumes nothing.
-use mathlib.Core.Path.{◌≡◌, sym, ◌∙◌}
-use mathlib.Core.Bool.{Bool, true, false, not, true≢false}
+use mathlib.Core.Path.{◌≡◌, sym, ap, ◌∙◌}
+use mathlib.Core.Bool.{true, false}
 use mathlib.Core.List.{List}
 use Prim.Native.Nat.{ℕ}
-use lib.ListN.{length, replicate}
+use lib.ListN.{length, replicate, length-replicate}
 use Rattle.model.specs.RulesTest.{rules_hold}
+use Rattle.laws.proofs.RulesTest.{rules-of-test}
+use Rattle.words.proofs.Tests.{and_left}
 use Rattle.layout.specs.declared.Document.{Document}
-use Rattle.layout.specs.Layout.{buffers_ok}
-use Rattle.memory.specs.Decode.{decode}
-use Rattle.editing.specs.Contract.{admission, scratch_after}
+use Rattle.layout.specs.Layout.{memory_ok, buffers_ok}
+use Rattle.memory.specs.Decode.{pool_in, names_in, lengths_add, decode}
+use Rattle.memory.specs.Undamaged.{Undamaged}
+use Rattle.memory.proofs.Shaped.{shape}
+use Rattle.editing.specs.Contract.{Ready, admission, scratch_after}
 
-module _ (d : Document) (mem s : List ℕ) (t : Bool) (e : t ≡ buffers_ok d (length mem) (length s)) where
-  pub buffers-fit : not t ≡ false → buffers_ok d (length mem) (length s) ≡ true
-  buffers-fit f = go t e f
-    where
-      go : (q : Bool) → q ≡ buffers_ok d (length mem) (length s) → not q ≡ false → buffers_ok d (length mem) (length s) ≡ true
-      go true k f = sym k
-      go false k f = absurd (true≢false f)
-
-  failed : not t ≡ true → buffers_ok d (length mem) (length s) ≡ false
-  failed f = go t e f
-    where
-      go : (q : Bool) → q ≡ buffers_ok d (length mem) (length s) → not q ≡ true → buffers_ok d (length mem) (length s) ≡ false
-      go true k f = absurd (true≢false (sym f))
-      go false k f = sym k
-
-  pub bad-buffers : not t ≡ true → (4 ≡ admission d mem (length s)) × (s ≡ scratch_after d mem s)
+module _ (d : Document) (mem s : List ℕ) where
+  pub bad_buffers : buffers_ok d (length mem) (length s) ≡ false → (4 ≡ admission d mem (length s)) × (s ≡ scratch_after d mem s)
   unfolding admission scratch_after
-  bad-buffers f = (rw (failed f), rw (failed f))
+  bad_buffers f = (rw f, rw f)
 
-  module _ (f : not t ≡ false) (q : Bool) (k : q ≡ rules_hold (decode d mem)) (s' : List ℕ) (h : s' ≡ replicate (length s) 0) where
-    pub rules-hold : q ≡ true → (0 ≡ admission d mem (length s)) × (s' ≡ scratch_after d mem s)
+  module _ (f : buffers_ok d (length mem) (length s) ≡ true) (s' : List ℕ) (h : s' ≡ replicate (length s) 0) where
+    pub rules_hold_admits : rules_hold (decode d mem) ≡ true → (0 ≡ admission d mem (length s)) × (s' ≡ scratch_after d mem s)
     unfolding admission scratch_after
-    rules-hold g = (rw (buffers-fit f, ← k, g), h ∙ rw (buffers-fit f))
+    rules_hold_admits g = (rw (f, g), h ∙ rw f)
 
-    pub rules-broken : q ≡ false → (5 ≡ admission d mem (length s)) × (s' ≡ scratch_after d mem s)
+    pub rules_broken : rules_hold (decode d mem) ≡ false → (5 ≡ admission d mem (length s)) × (s' ≡ scratch_after d mem s)
     unfolding admission scratch_after
-    rules-broken g = (rw (buffers-fit f, ← k, g), h ∙ rw (buffers-fit f))
+    rules_broken g = (rw (f, g), h ∙ rw f)
+
+    undamaged : rules_hold (decode d mem) ≡ true → Undamaged d mem
+    unfolding buffers_ok
+    undamaged g =
+        let m : memory_ok d (length mem) ≡ true = and_left _ _ f in
+        record { memory = m; rules = rules-of-test (decode d mem) (shape (pool_in d mem) (names_in d mem) (lengths_add d mem) d mem m) g }
+
+    pub ready : rules_hold (decode d mem) ≡ true → Ready d mem s'
+    ready g =
+        let n : length s' ≡ length s = ap length h ∙ length-replicate (length s) 0 in
+        record { undamaged = undamaged g; buffers = ap (buffers_ok d (length mem)) n ∙ f; zero = h ∙ ap (λ (k : ℕ). replicate k 0) (sym n) }

@@ -1,4 +1,3 @@
 pub mod Numbers
 pub mod Editing
 pub mod Admitting
-pub mod Searched

@@ -1,19 +1,20 @@
 -- A refusal's number tells the answer.
 -- Assumes nothing.
-use mathlib.Core.Path.{◌≡◌, refl, ap, ◌∙◌}
-use mathlib.Core.Bool.{false≢true}
+use mathlib.Core.Path.{◌≡◌, sym, ap, ◌∙◌}
 use Prim.Native.Nat.{ℕ}
-use lib.Dec.{eqb}
+use native.Mathlib.Omega.{arith}
 use Rattle.model.specs.Refusals.{number_of}
 use Rattle.model.specs.declared.Refusal.{Refusal}
+use Rattle.model.specs.Arguments.{first}
 use Rattle.model.specs.Calls.{Answered, refused, done, made, truth, node, listed, every_node, kind_is, name_is, key, keys}
-use Rattle.verdicts.specs.declared.verdict.Verdict.TheVariants.{Refused}
 use Rattle.verdicts.specs.Verdicts.{refusal_number}
-use Rattle.verdicts.proofs.Verdicts.{refused-some}
+use Rattle.verdicts.proofs.Verdicts.{refused_first}
 
 -- no refusal's number is 0
 pub never-zero : {P : Type 0} → (w : Refusal) → number_of w ≡ 0 → P
-never-zero w e = absurd (false≢true (refused-some (Refused w) w refl ∙ ap (λ (n : ℕ). eqb n 0) e))
+never-zero w e =
+    let z : ◌≡◌ {A = ℕ} 1 0 = ap (λ (n : ℕ). first n 1) (sym e) ∙ refused_first w 1 ∙ e in
+    absurd (omega arith)
 
 abbrev pub refusing : ℕ → Answered
 refusing n = refused n

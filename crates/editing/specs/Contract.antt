@@ -5,6 +5,7 @@ use Rattle.model.specs.RulesTest.{rules_hold}
 use Rattle.layout.specs.declared.Document.{Document}
 use Rattle.layout.specs.Layout.{limits_of, document_words, buffers_ok}
 use Rattle.memory.specs.Decode.{decode}
+use Rattle.memory.specs.Undamaged.{Undamaged}
 
 -- "Editing calls are the twelve under "Edits", `document_order` and `compact`."
 abbrev pub is_editing : Call → Bool
@@ -64,11 +65,8 @@ pub record Edits (c : Call) (d : Document) (mem scratch : List ℕ) (a : Answere
   pub beyond : drop (document_words (limits_of d.limits)) mem' ≡ drop (document_words (limits_of d.limits)) mem
   pub cleared : scratch' ≡ scratch_after d mem scratch
 
--- The same behind test 4 and the structure check: what is left is the call's own step on the document.
-pub record Answers (c : Call) (d : Document) (mem : List ℕ) (a : Answered) (d' : Document) (mem' : List ℕ) : Type 0 where
-  pub answer : a ≡ (step c (decode d mem)).answer
-  pub after : is_refusal a ≡ false → decode d' mem' ≡ (step c (decode d mem)).doc
-  pub kept : is_refusal a ≡ true → (mem' ≡ mem) × (d' ≡ d)
-  pub limits : d'.limits ≡ d.limits
-  pub lent : length mem' ≡ length mem
-  pub beyond : drop (document_words (limits_of d.limits)) mem' ≡ drop (document_words (limits_of d.limits)) mem
+-- What a call that was admitted finds: memory that keeps every rule, and scratch that fits and is all zero.
+pub record Ready (d : Document) (mem scratch : List ℕ) : Type 0 where
+  pub undamaged : Undamaged d mem
+  pub buffers : buffers_ok d (length mem) (length scratch) ≡ true
+  pub zero : scratch ≡ replicate (length scratch) 0

@@ -1,8 +1,8 @@
 -- What the checks of an accepted call leave to its steps.
 -- Assumes nothing.
+use Rattle.std.specs.Prelude.{Option, None, Some}
 use mathlib.Core.Path.{◌≡◌, refl, sym, ap, ◌∙◌}
 use mathlib.Core.Bool.{Bool, true, false, not, cond, true≢false}
-use mathlib.Core.Option.{Option, none, some}
 use mathlib.Core.List.{List}
 use Prim.Native.Nat.{ℕ, zero, suc}
 use native.Mathlib.Omega.{arith}
@@ -42,13 +42,13 @@ checked-room n fits D o e =
 -- ---- the node that a check looked at
 
 module _ (D : Doc) (h : ℕ) where
-  pub viewed : (check : View → ℕ) → (check none ≡ 0 → ⊥) → check (view_at D h) ≡ 0 → (resolves D h ≡ true) × (check (some (node_at D h)) ≡ 0)
+  pub viewed : (check : View → ℕ) → (check None ≡ 0 → ⊥) → check (view_at D h) ≡ 0 → (resolves D h ≡ true) × (check (Some (node_at D h)) ≡ 0)
   viewed check stale e = go (resolves D h) refl
     where
-      seen : (r : Bool) → resolves D h ≡ r → check (cond r (some (node_at D h)) none) ≡ 0
-      seen r q = ap (λ (x : Bool). check (cond x (some (node_at D h)) none)) (sym q) ∙ e
+      seen : (r : Bool) → resolves D h ≡ r → check (cond r (Some (node_at D h)) None) ≡ 0
+      seen r q = ap (λ (x : Bool). check (cond x (Some (node_at D h)) None)) (sym q) ∙ e
 
-      go : (r : Bool) → resolves D h ≡ r → (resolves D h ≡ true) × (check (some (node_at D h)) ≡ 0)
+      go : (r : Bool) → resolves D h ≡ r → (resolves D h ≡ true) × (check (Some (node_at D h)) ≡ 0)
       go true q = (q, seen true q)
       go false q = absurd (stale (seen false q))
 

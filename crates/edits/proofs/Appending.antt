@@ -1,8 +1,8 @@
 -- A new node at the end of a list.
 -- Assumes nothing.
+use Rattle.std.specs.Prelude.{Option, None, Some}
 use mathlib.Core.Path.{◌≡◌, refl, sym, ap, subst, subst₂, ◌∙◌}
 use mathlib.Core.Bool.{true, ◌&&◌, false≢true}
-use mathlib.Core.Option.{Option, none, some}
 use mathlib.Core.List.{List, [], ◌∷◌}
 use Prim.Native.Nat.{ℕ, ◌%◌, ◌<◌}
 use native.Mathlib.Omega.{arith}
@@ -36,11 +36,11 @@ use Rattle.edits.proofs.Lists.{room_open}
 
 -- a document in which the slot and the arena are the same has the same room
 room-same : (B D : Doc) (w : Which) (s : ℕ) → B.counts_fit ≡ D.counts_fit → B.arenas w ≡ D.arenas w → generation_at B s ≡ generation_at D s
-    → get_or B.kinds s none ≡ get_or D.kinds s none → range_in B w s ≡ range_in D w s → RoomIn D w s → RoomIn B w s
+    → get_or B.kinds s None ≡ get_or D.kinds s None → range_in B w s ≡ range_in D w s → RoomIn D w s → RoomIn B w s
 room-same B D w s c a g k b r =
     record {
       counts = c ∙ r.counts;
-      live = ap (λ (x : ℕ). even x && is_some (get_or B.kinds s none)) g ∙ ap (λ (x : Option (Kind ℕ (Option ℕ))). even (generation_at D s) && is_some x) k ∙ r.live;
+      live = ap (λ (x : ℕ). even x && is_some (get_or B.kinds s None)) g ∙ ap (λ (x : Option (Kind ℕ (Option ℕ))). even (generation_at D s) && is_some x) k ∙ r.live;
       owner = ap (λ (x : Option (Kind ℕ (Option ℕ))). has_range w (or_else root x)) k ∙ r.owner;
       inside = subst₂ (λ (x : Arena) (y : Block). Inside x y) (sym a) (sym b) r.inside;
       room = ap (λ (x : Arena). has_room x (range_in B w s)) a ∙ ap (λ (y : Block). has_room (D.arenas w) y) b ∙ r.room;
@@ -64,13 +64,13 @@ module _ (D : Doc) (sh : Shape D) (narrow : length D.gens < 4294967296) (ready :
       go : (f : List ℕ) → D.free ≡ f → live_slot (born_from f D k p names) (handle_index (next_from f D)) ≡ true
       go [] e =
           ap (live_slot (born_from [] D k p names)) (handle_index-word_of (record { index = length D.gens; generation = 0 }) narrow)
-          ∙ rw (get_or_at D.gens 0 [] 1 (length D.gens) refl, get_or_at D.kinds (some k) [] none (length D.gens) sh.kinds)
+          ∙ rw (get_or_at D.gens 0 [] 1 (length D.gens) refl, get_or_at D.kinds (Some k) [] None (length D.gens) sh.kinds)
       go (i ∷ l) e =
           let b = first_made i l e in
           let kb : i < length D.kinds = omega (arith, sh.kinds) in
           let even_up : eqb (up (generation_at D i) % 2) 0 ≡ true = eq-eqb (up (generation_at D i) % 2) 0 (omega (arith, first-odd i l e)) in
           ap (live_slot (born_from (i ∷ l) D k p names)) (handle_index-word_of (record { index = i; generation = up (generation_at D i) }) (omega arith))
-          ∙ rw (get_or-set_same D.gens i (up (generation_at D i)) 1 b, get_or-set_same D.kinds i (some k) none kb, even_up)
+          ∙ rw (get_or-set_same D.gens i (up (generation_at D i)) 1 b, get_or-set_same D.kinds i (Some k) None kb, even_up)
 
   -- ---- every other slot is as it was
 
@@ -81,7 +81,7 @@ module _ (D : Doc) (sh : Shape D) (narrow : length D.gens < 4294967296) (ready :
       go (yes b) = b
       go (no nb) =
           let q : get_or D.gens s 1 ≡ 1 = get_or-eq_default D.gens 1 {n = s} (omega arith) in
-          absurd (false≢true (sym (ap (λ (g : ℕ). even g && is_some (get_or D.kinds s none)) q) ∙ h))
+          absurd (false≢true (sym (ap (λ (g : ℕ). even g && is_some (get_or D.kinds s None)) q) ∙ h))
 
   pub born-room : (w : Which) (s : ℕ) → RoomIn D w s → RoomIn (born D k p names) w s
   unfolding born
@@ -94,19 +94,19 @@ module _ (D : Doc) (sh : Shape D) (narrow : length D.gens < 4294967296) (ready :
           let rb : s < length (D.ranges w) = omega (arith, sh.ranges w) in
           room-same (born_from [] D k p names) D w s refl refl
           (get_or-append D.gens (0 ∷ []) 1 s b)
-          (get_or-append D.kinds (some k ∷ []) none s kb)
+          (get_or-append D.kinds (Some k ∷ []) None s kb)
           (get_or-append (D.ranges w) (block 0 0 ∷ []) (block 0 0) s rb)
           r
       go (i ∷ l) e =
           room-same (born_from (i ∷ l) D k p names) D w s refl refl
           (get_or-set_other D.gens i s (up (generation_at D i)) 1 other)
-          (get_or-set_other D.kinds i s (some k) none other)
+          (get_or-set_other D.kinds i s (Some k) None other)
           (get_or-set_other (D.ranges w) i s (block 0 0) (block 0 0) other)
           r
         where
           other : s ≡ i → ⊥
           other q =
-              let v = eqb-true (generation_at D s % 2) 0 (and_left (even (generation_at D s)) (is_some (get_or D.kinds s none)) r.live) in
+              let v = eqb-true (generation_at D s % 2) 0 (and_left (even (generation_at D s)) (is_some (get_or D.kinds s None)) r.live) in
               let o = first-odd i l e in
               let z : generation_at D i % 2 ≡ 0 = ap (λ (x : ℕ). generation_at D x % 2) (sym q) ∙ v in
               omega arith

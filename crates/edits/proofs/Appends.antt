@@ -1,15 +1,15 @@
 -- The calls that append a child: what their steps ask, and that the steps in a row are the call.
 -- Assumes nothing.
+use Rattle.words.specs.declared.TextSlot.{TextSlot}
+use Rattle.std.specs.Prelude.{Option, None}
 use mathlib.Core.Path.{◌≡◌, refl, sym, ap, ap₂, subst, ◌∙◌}
 use mathlib.Core.Bool.{Bool, true, false, ◌&&◌}
-use mathlib.Core.Option.{Option, none}
 use mathlib.Core.List.{List, [], ◌∷◌}
 use Prim.Native.Nat.{ℕ, ◌<◌}
 use lib.ListN.{length}
 use Rattle.words.proofs.Tests.{and_left, and_right}
 use Rattle.records.specs.Fields.{CharsFit}
 use Rattle.words.specs.declared.NameId.{NameId}
-use Rattle.records.specs.declared.Chars.{Chars}
 use Rattle.records.specs.declared.NodeData.TheVariants as given
 use Rattle.records.specs.declared.Node.{Node}
 use Rattle.texts.specs.Pool.{stored, stored_slot, slots_for}
@@ -85,7 +85,7 @@ module _ (d : Document) (mem : List ℕ) (pw : ℕ) (t : List ℕ) (a : Admitted
   pub text-storable : Storable d mem t
   text-storable = one-storable d mem pw t a.undamaged text text-check text-box a.accepted
 
-  module _ (e₁ : Document) (mem₁ : List ℕ) (s : Step d mem e₁ mem₁ (set_pool (decode d mem) (stored (decode d mem).pool t))) (m : Node) (f : Chars) (em : m ≡ new_node (given.Text f))
+  module _ (e₁ : Document) (mem₁ : List ℕ) (s : Step d mem e₁ mem₁ (set_pool (decode d mem) (stored (decode d mem).pool t))) (m : Node) (f : Option TextSlot) (em : m ≡ new_node (given.Text f))
       (q : (slot_of f ≡ stored_slot (decode d mem).pool t) × CharsFit f) where
     pub text-ready : Appendable e₁ mem₁ children pw × Newborn m
     text-ready = (one-appendable d mem pw t a.undamaged text text-check text-box a.accepted e₁ mem₁ s, subst Newborn (sym em) (newborn-text f q.1))
@@ -107,7 +107,7 @@ module _ (d : Document) (mem : List ℕ) (pw : ℕ) (t : List ℕ) (a : Admitted
   pub comment-storable : Storable d mem t
   comment-storable = one-storable d mem pw t a.undamaged comment comment-check comment-box a.accepted
 
-  module _ (e₁ : Document) (mem₁ : List ℕ) (s : Step d mem e₁ mem₁ (set_pool (decode d mem) (stored (decode d mem).pool t))) (m : Node) (f : Chars) (em : m ≡ new_node (given.Comment f))
+  module _ (e₁ : Document) (mem₁ : List ℕ) (s : Step d mem e₁ mem₁ (set_pool (decode d mem) (stored (decode d mem).pool t))) (m : Node) (f : Option TextSlot) (em : m ≡ new_node (given.Comment f))
       (q : (slot_of f ≡ stored_slot (decode d mem).pool t) × CharsFit f) where
     pub comment-ready : Appendable e₁ mem₁ children pw × Newborn m
     comment-ready = (one-appendable d mem pw t a.undamaged comment comment-check comment-box a.accepted e₁ mem₁ s, subst Newborn (sym em) (newborn-comment f q.1))
@@ -126,15 +126,15 @@ module _ (d : Document) (mem : List ℕ) (pw : ℕ) (ns local : List ℕ) (a : A
   D₁ = decode d mem
 
   abbrev element-check : ℕ
-  element-check = check_append_element ns local (view_at D₁ pw) (root_taken D₁ none)
+  element-check = check_append_element ns local (view_at D₁ pw) (root_taken D₁ None)
 
   abbrev further : ℕ
-  further = first (refuse_if (any_option is_root (view_at D₁ pw) && root_taken D₁ none) 12) (first (name_check local) (namespace_check ns))
+  further = first (refuse_if (any_option is_root (view_at D₁ pw) && root_taken D₁ None) 12) (first (name_check local) (namespace_check ns))
 
   abbrev named : Out
   named = appends D₁ pw (element (number_of D₁.names (name ns local))) D₁.pool (interned D₁.names (name ns local))
 
-  element-passed : (check_append_element ns local (view_at (decode d mem) pw) (root_taken (decode d mem) none) ≡ 0)
+  element-passed : (check_append_element ns local (view_at (decode d mem) pw) (root_taken (decode d mem) None) ≡ 0)
       × ((name_fits_in (decode d mem) (name ns local) && node_fits (decode d mem) children pw) ≡ true)
   element-passed = checked-room element-check (name_fits_in D₁ (name ns local) && node_fits D₁ children pw) D₁ named a.accepted
 
@@ -190,7 +190,7 @@ module _ (d : Document) (mem : List ℕ) (pw : ℕ) (target content : List ℕ) 
         room = and_left (two_fit D₂ target content) (node_fits D₂ children pw) pi-passed.1;
       }
 
-  module _ (e₁ : Document) (mem₁ : List ℕ) (s : Step d mem e₁ mem₁ (set_pool (decode d mem) (stored (stored (decode d mem).pool target) content))) (m : Node) (f g : Chars)
+  module _ (e₁ : Document) (mem₁ : List ℕ) (s : Step d mem e₁ mem₁ (set_pool (decode d mem) (stored (stored (decode d mem).pool target) content))) (m : Node) (f g : Option TextSlot)
       (em : m ≡ new_node (given.ProcessingInstruction f g)) (qf : (slot_of f ≡ stored_slot (decode d mem).pool target) × CharsFit f)
       (qg : (slot_of g ≡ stored_slot (stored (decode d mem).pool target) content) × CharsFit g) where
     alike₂ : Step d mem e₁ mem₁ (set_pool (set_names (decode d mem) (decode d mem).names) (stored (stored (decode d mem).pool target) content))

@@ -1,8 +1,9 @@
 -- The calls that set an attribute or declare a namespace: what their steps ask, and that the steps in a row are the call.
 -- Assumes nothing.
+use Rattle.words.specs.declared.TextSlot.{TextSlot}
+use Rattle.std.specs.Prelude.{Option, None, Some}
 use mathlib.Core.Path.{◌≡◌, refl, sym, ap, ap₂, subst, ◌∙◌}
 use mathlib.Core.Bool.{Bool, true, false, ◌&&◌, cond}
-use mathlib.Core.Option.{Option, none, some}
 use mathlib.Core.List.{List, [], ◌∷◌, Memᴰ}
 use Prim.Native.Nat.{ℕ, ◌<◌}
 use lib.ListN.{length}
@@ -11,7 +12,6 @@ use Rattle.words.proofs.Tests.{and_left, and_right}
 use Rattle.records.specs.Fields.{CharsFit}
 use Rattle.records.specs.Handles.{handle_index, handle_generation}
 use Rattle.words.specs.declared.NameId.{NameId}
-use Rattle.records.specs.declared.Chars.{Chars}
 use Rattle.records.specs.declared.NodeData.TheVariants as given
 use Rattle.records.specs.declared.Node.{Node}
 use Rattle.texts.specs.Pool.{Pool, stored, stored_slot, slots_for}
@@ -73,7 +73,7 @@ module _ (d : Document) (mem : List ℕ) (n : Name) (t : List ℕ) (i : Internab
       (step-next d mem e mem₁ E a (λ (x : Doc). set_pool x (stored x.pool t)) r mem₂ b)
       (ap (λ (p : Pool). set_pool E (stored p t)) pool-there)
 
-  pub value-field : (f : Chars) → slot_of f ≡ stored_slot (decode e mem₁).pool t → slot_of f ≡ stored_slot (decode d mem).pool t
+  pub value-field : (f : Option TextSlot) → slot_of f ≡ stored_slot (decode e mem₁).pool t → slot_of f ≡ stored_slot (decode d mem).pool t
   value-field f q = q ∙ ap (λ (p : Pool). stored_slot p t) (ap (λ (x : Doc). x.pool) a.document ∙ pool-there)
 
 -- ---- the checks, then what was found, then Full
@@ -119,15 +119,15 @@ module _ (d : Document) (mem : List ℕ) (el : ℕ) (ns local value : List ℕ) 
   element-set z = then-element D el (not_utf8 (ns ∷ local ∷ value ∷ [])) further z
 
   -- a new one
-  module _ (q : find_attribute (decode d mem) el (name ns local) ≡ none) where
+  module _ (q : find_attribute (decode d mem) el (name ns local) ≡ None) where
     abbrev fits : Bool
     fits = text_fits D (slots_for value) 0 (length value) && node_fits D attributes el
 
     abbrev added : Out
     added = answers (appended D attributes el (attribute (number_of D.names n) (stored_slot D.pool value)) (stored D.pool value) (interned D.names n)) done
 
-    absent : Found (decode d mem) check (step (set-attribute el ns local value) (decode d mem)) (set_attribute_found none (decode d mem) el (name ns local) value)
-    absent = found D check doing (find_attribute D el n) none q a.accepted
+    absent : Found (decode d mem) check (step (set-attribute el ns local value) (decode d mem)) (set_attribute_found None (decode d mem) el (name ns local) value)
+    absent = found D check doing (find_attribute D el n) None q a.accepted
 
     room : (name_fits_in (decode d mem) (name ns local) && (text_fits (decode d mem) (slots_for value) 0 (length value) && node_fits (decode d mem) attributes el)) ≡ true
     room = room-left (name_fits_in D n && fits) (guard_passed (full_unless (name_fits_in D n && fits)) D added absent.accepted)
@@ -143,7 +143,7 @@ module _ (d : Document) (mem : List ℕ) (el : ℕ) (ns local value : List ℕ) 
     )
 
     module _ (e : Document) (mem₁ : List ℕ) (s : Step d mem e mem₁ (set_pool (set_names (decode d mem) (interned (decode d mem).names (name ns local))) (stored (decode d mem).pool value)))
-        (m : Node) (i : NameId) (f : Chars) (em : m ≡ new_node (given.Attr i f)) (qi : (i.0 ≡ number_of (decode d mem).names (name ns local)) × (i.0 < 4294967296))
+        (m : Node) (i : NameId) (f : Option TextSlot) (em : m ≡ new_node (given.Attr i f)) (qi : (i.0 ≡ number_of (decode d mem).names (name ns local)) × (i.0 < 4294967296))
         (qf : (slot_of f ≡ stored_slot (decode d mem).pool value) × CharsFit f) where
       pub attribute-ready : Appendable e mem₁ attributes el × Newborn m
       attribute-ready = (
@@ -162,12 +162,12 @@ module _ (d : Document) (mem : List ℕ) (el : ℕ) (ns local value : List ℕ) 
           (absent.same ∙ guard-open (full_unless (name_fits_in D n && fits)) D added absent.accepted)
 
   -- another value
-  module _ (x : ℕ) (q : find_attribute (decode d mem) el (name ns local) ≡ some x) where
+  module _ (x : ℕ) (q : find_attribute (decode d mem) el (name ns local) ≡ Some x) where
     abbrev changed : Out
     changed = answers (with_replaced D x (replaceable_at D x) value) done
 
-    there : Found (decode d mem) check (step (set-attribute el ns local value) (decode d mem)) (set_attribute_found (some x) (decode d mem) el (name ns local) value)
-    there = found D check doing (find_attribute D el n) (some x) q a.accepted
+    there : Found (decode d mem) check (step (set-attribute el ns local value) (decode d mem)) (set_attribute_found (Some x) (decode d mem) el (name ns local) value)
+    there = found D check doing (find_attribute D el n) (Some x) q a.accepted
 
     pub value-replaceable : Replaceable d mem x value
     value-replaceable =
@@ -201,12 +201,12 @@ module _ (d : Document) (mem : List ℕ) (el : ℕ) (prefix uri : List ℕ) (a :
   element-declared z = then-element D₁ el (not_utf8 (prefix ∷ uri ∷ [])) (declaration_check prefix uri) z
 
   -- a new one
-  module _ (q : find_namespace (decode d mem) el prefix ≡ none) where
+  module _ (q : find_namespace (decode d mem) el prefix ≡ None) where
     abbrev added₁ : Out
     added₁ = answers (appended D₁ namespaces el (with_two D₁ namespace prefix uri) (stored_two D₁ prefix uri) D₁.names) (made (next_handle D₁))
 
-    absent₁ : Found (decode d mem) check₁ (step (declare-namespace el prefix uri) (decode d mem)) (declare_namespace_found none (decode d mem) el prefix uri)
-    absent₁ = found D₁ check₁ declaring (find_namespace D₁ el prefix) none q a.accepted
+    absent₁ : Found (decode d mem) check₁ (step (declare-namespace el prefix uri) (decode d mem)) (declare_namespace_found None (decode d mem) el prefix uri)
+    absent₁ = found D₁ check₁ declaring (find_namespace D₁ el prefix) None q a.accepted
 
     room₁ : (two_fit (decode d mem) prefix uri && node_fits (decode d mem) namespaces el) ≡ true
     room₁ =
@@ -221,7 +221,7 @@ module _ (d : Document) (mem : List ℕ) (el : ℕ) (prefix uri : List ℕ) (a :
           room = and_left (two_fit D₁ prefix uri) (node_fits D₁ namespaces el) room₁;
         }
 
-    module _ (e : Document) (mem₁ : List ℕ) (s : Step d mem e mem₁ (set_pool (decode d mem) (stored (stored (decode d mem).pool prefix) uri))) (m : Node) (f g : Chars)
+    module _ (e : Document) (mem₁ : List ℕ) (s : Step d mem e mem₁ (set_pool (decode d mem) (stored (stored (decode d mem).pool prefix) uri))) (m : Node) (f g : Option TextSlot)
         (em : m ≡ new_node (given.Namespace f g)) (qf : (slot_of f ≡ stored_slot (decode d mem).pool prefix) × CharsFit f)
         (qg : (slot_of g ≡ stored_slot (stored (decode d mem).pool prefix) uri) × CharsFit g) where
       alike : Step d mem e mem₁ (set_pool (set_names (decode d mem) (decode d mem).names) (stored (stored (decode d mem).pool prefix) uri))
@@ -244,12 +244,12 @@ module _ (d : Document) (mem : List ℕ) (el : ℕ) (prefix uri : List ℕ) (a :
           (absent₁.same ∙ guard-open (full_unless (two_fit D₁ prefix uri && node_fits D₁ namespaces el)) D₁ added₁ absent₁.accepted) h z.1
 
   -- another URI
-  module _ (x : ℕ) (q : find_namespace (decode d mem) el prefix ≡ some x) where
+  module _ (x : ℕ) (q : find_namespace (decode d mem) el prefix ≡ Some x) where
     abbrev changed₁ : Out
     changed₁ = answers (with_replaced D₁ x (replaceable_at D₁ x) uri) (made x)
 
-    there₁ : Found (decode d mem) check₁ (step (declare-namespace el prefix uri) (decode d mem)) (declare_namespace_found (some x) (decode d mem) el prefix uri)
-    there₁ = found D₁ check₁ declaring (find_namespace D₁ el prefix) (some x) q a.accepted
+    there₁ : Found (decode d mem) check₁ (step (declare-namespace el prefix uri) (decode d mem)) (declare_namespace_found (Some x) (decode d mem) el prefix uri)
+    there₁ = found D₁ check₁ declaring (find_namespace D₁ el prefix) (Some x) q a.accepted
 
     pub uri-replaceable : Replaceable d mem x uri
     uri-replaceable =

@@ -1,8 +1,9 @@
 -- Another text in a node's field, and over the text of a slot.
 -- Assumes nothing.
+use Rattle.words.specs.declared.TextSlot.{TextSlot}
+use Rattle.std.specs.Prelude.{Option, None, Some}
 use mathlib.Core.Path.{◌≡◌, refl, sym, ap, subst, ◌∙◌}
 use mathlib.Core.Bool.{true}
-use mathlib.Core.Option.{Option, none, some}
 use mathlib.Core.List.{List, [], ◌∷◌}
 use Prim.Native.Nat.{ℕ, zero, suc, ◌<◌}
 use native.Mathlib.Omega.{arith}
@@ -12,12 +13,10 @@ use Rattle.blocks.specs.Arena.{Block, block}
 use Rattle.records.specs.Fields.{CharsFit, DataFits, ChildrenFit, NodeFits}
 use Rattle.records.specs.Handles.{handle_index, word_of}
 use Rattle.records.specs.declared.NodeId.{NodeId}
-use Rattle.records.specs.declared.Chars.{Chars}
 use Rattle.records.specs.declared.Range.{Range}
 use Rattle.records.specs.declared.NodeData.{NodeData}
 use Rattle.records.specs.declared.NodeData.TheVariants as given
 use Rattle.records.specs.declared.Node.{Node}
-use Rattle.records.specs.declared.Loaded.TheVariants.{Found}
 use Rattle.records.proofs.Handles.{handle_index-word_of}
 use Rattle.texts.specs.Pool.{Pool, text_at, replaced, texts_fit}
 use Rattle.texts.specs.Words.{pool_of, counts_fit, Counted, ReplacedTo}
@@ -53,13 +52,13 @@ module _ {A : Type 0} where
 
 -- ---- a node with another field
 
-pub field-of : (x y : NodeData) (f : Chars) → x ≡ y → with_field y f ≡ with_field x f
+pub field-of : (x y : NodeData) (f : Option TextSlot) → x ≡ y → with_field y f ≡ with_field x f
 field-of x y f e = ap (λ (z : NodeData). with_field z f) (sym e)
 
-pub filled-as : (m : Node) (f : Chars) (x : NodeData) → x ≡ with_field m.«data» f → record { «data» = x; parent = m.parent; children = m.children } ≡ filled m f
+pub filled-as : (m : Node) (f : Option TextSlot) (x : NodeData) → x ≡ with_field m.«data» f → record { «data» = x; parent = m.parent; children = m.children } ≡ filled m f
 filled-as m f x e = λ i. record { «data» = e i; parent = m.parent; children = m.children }
 
-field-kind : (x : NodeData) (f : Chars) → kind_of (with_field x f) ≡ with_text (kind_of x) (slot_of f)
+field-kind : (x : NodeData) (f : Option TextSlot) → kind_of (with_field x f) ≡ with_text (kind_of x) (slot_of f)
 field-kind given.Root f = refl
 field-kind (given.Element n a s) f = refl
 field-kind (given.Attr n v) f = refl
@@ -68,7 +67,7 @@ field-kind (given.Comment v) f = refl
 field-kind (given.Namespace p u) f = refl
 field-kind (given.ProcessingInstruction t c) f = refl
 
-field-data : (x : NodeData) (f : Chars) → CharsFit f → DataFits x → DataFits (with_field x f)
+field-data : (x : NodeData) (f : Option TextSlot) → CharsFit f → DataFits x → DataFits (with_field x f)
 field-data given.Root f c h = h
 field-data (given.Element n a s) f c h = h
 field-data (given.Attr n v) f c h = (h.0, c)
@@ -77,7 +76,7 @@ field-data (given.Comment v) f c h = h
 field-data (given.Namespace p u) f c h = (h.0, c)
 field-data (given.ProcessingInstruction t d) f c h = h
 
-field-children : (x : NodeData) (f : Chars) (r : Range) → ChildrenFit x r → ChildrenFit (with_field x f) r
+field-children : (x : NodeData) (f : Option TextSlot) (r : Range) → ChildrenFit x r → ChildrenFit (with_field x f) r
 field-children given.Root f r h = h
 field-children (given.Element n a s) f r h = h
 field-children (given.Attr n v) f r h = h
@@ -86,7 +85,7 @@ field-children (given.Comment v) f r h = h
 field-children (given.Namespace p u) f r h = h
 field-children (given.ProcessingInstruction t c) f r h = h
 
-field-range : (w : Which) (x : NodeData) (f : Chars) → element_range w (with_field x f) ≡ element_range w x
+field-range : (w : Which) (x : NodeData) (f : Option TextSlot) → element_range w (with_field x f) ≡ element_range w x
 field-range w given.Root f = refl
 field-range w (given.Element n a s) f = refl
 field-range w (given.Attr n v) f = refl
@@ -95,7 +94,7 @@ field-range w (given.Comment v) f = refl
 field-range w (given.Namespace p u) f = refl
 field-range w (given.ProcessingInstruction t c) f = refl
 
-filled-fits : (m : Node) (f : Chars) → CharsFit f → NodeFits m → NodeFits (filled m f)
+filled-fits : (m : Node) (f : Option TextSlot) → CharsFit f → NodeFits m → NodeFits (filled m f)
 filled-fits m f c h =
     record {
       fits-data = field-data m.«data» f c h.fits-data;
@@ -103,30 +102,30 @@ filled-fits m f c h =
       fits-children = field-children m.«data» f m.children h.fits-children;
     }
 
-filled-range : (w : Which) (m : Node) (f : Chars) → range_of w (filled m f) ≡ range_of w m
+filled-range : (w : Which) (m : Node) (f : Option TextSlot) → range_of w (filled m f) ≡ range_of w m
 filled-range children m f = refl
 filled-range attributes m f = field-range attributes m.«data» f
 filled-range namespaces m f = field-range namespaces m.«data» f
 
 -- a node stored with the parent and the blocks that it had is another kind
 kind-alone : (D : Doc) (s h : ℕ) → handle_index h ≡ s → (k k' : Kind ℕ (Option ℕ)) → k ≡ k' → (p : Option ℕ) → set D.parents s p ≡ D.parents
-    → (r : Which → Block) → ((w : Which) → set (D.ranges w) s (r w) ≡ D.ranges w) → set_node D s (some k) p r ≡ set_kind D h k' D.pool
+    → (r : Which → Block) → ((w : Which) → set (D.ranges w) s (r w) ≡ D.ranges w) → set_node D s (Some k) p r ≡ set_kind D h k' D.pool
 unfolding set_node set_kind
-kind-alone D s h j k k' ek p ep r er = λ i. change_nodes D (set D.kinds (sym j i) (some (ek i))) (ep i) (λ w. er w i)
+kind-alone D s h j k k' ek p ep r er = λ i. change_nodes D (set D.kinds (sym j i) (Some (ek i))) (ep i) (λ w. er w i)
 
 module _ (d : Document) (mem : List ℕ) (id : NodeId) (hi : id.index < 4294967296) (h : NodeHeld d mem (word_of id))
-    (m : Node) (e : loaded_at d.limits.nodes (slots_part d mem) id.index ≡ Found m) where
+    (m : Node) (e : loaded_at d.limits.nodes (slots_part d mem) id.index ≡ Some m) where
   abbrev D : Doc
   D = decode d mem
 
   made : id.index < slots_made d
   made = node_made d mem id hi h
 
-  module _ (f : Chars) (c : CharsFit f) where
+  module _ (f : Option TextSlot) (c : CharsFit f) where
     parents-kept : set (decode d mem).parents id.index (handle_of m.parent) ≡ (decode d mem).parents
     parents-kept =
         let z = shape (pool_in d mem) (names_in d mem) (lengths_add d mem) d mem h.memory in
-        set-kept D.parents id.index none (handle_of m.parent) (omega (arith, z.parents, length-gens (pool_in d mem) (names_in d mem) (lengths_add d mem) d mem, made))
+        set-kept D.parents id.index None (handle_of m.parent) (omega (arith, z.parents, length-gens (pool_in d mem) (names_in d mem) (lengths_add d mem) d mem, made))
         (parent-found (pool_in d mem) (names_in d mem) (lengths_add d mem) d mem id.index made m e)
 
     ranges-kept : (w : Which) → set ((decode d mem).ranges w) id.index (range_of w (filled m f)) ≡ (decode d mem).ranges w
@@ -170,9 +169,9 @@ module _ (d : Document) (mem : List ℕ) (slot : ℕ) (t : List ℕ) (s : Overwr
   fits : counts_fit (text_limits d) (text_counts d) 0 (length_of (texts_part d mem) slot) (length t) ≡ true
   fits =
       ap (λ (n : ℕ). counts_fit (text_limits d) (text_counts d) 0 n (length t))
-      (sym (text-length (text_limits d) (text_counts d) (texts_part d mem) counted slot slot-there) ∙ ap (λ (p : Pool). length (text_at p (some slot))) (sym (pool-held d mem counted)))
-      ∙ fits-pool (text_limits d) (text_counts d) (texts_part d mem) counted 0 (length (text_at (pool_in d mem) (some slot))) (length t)
-      ∙ ap (λ (p : Pool). texts_fit d.limits.texts d.limits.textbytes p 0 (length (text_at (pool_in d mem) (some slot))) (length t)) (sym (pool-held d mem counted))
+      (sym (text-length (text_limits d) (text_counts d) (texts_part d mem) counted slot slot-there) ∙ ap (λ (p : Pool). length (text_at p (Some slot))) (sym (pool-held d mem counted)))
+      ∙ fits-pool (text_limits d) (text_counts d) (texts_part d mem) counted 0 (length (text_at (pool_in d mem) (Some slot))) (length t)
+      ∙ ap (λ (p : Pool). texts_fit d.limits.texts d.limits.textbytes p 0 (length (text_at (pool_in d mem) (Some slot))) (length t)) (sym (pool-held d mem counted))
       ∙ s.room
 
   pub over-asked : (memory_ok d (length mem) ≡ true) × Counted (text_limits d) (text_counts d) (texts_part d mem) × (slot < d.counts.texts)
@@ -180,7 +179,7 @@ module _ (d : Document) (mem : List ℕ) (slot : ℕ) (t : List ℕ) (s : Overwr
   over-asked = (s.memory, counted, slot-there, fits)
 
   pub over-step : (mem' : List ℕ) (r : TextCounts) → ReplacedTo (text_limits d) (text_counts d) (texts_part d mem) (texts_part d mem') slot t r
-      → mem' ≡ put_texts d (texts_part d mem') mem → (e : Document) → e ≡ with_texts d r → Step d mem e mem' (set_pool (decode d mem) (replaced (decode d mem).pool (some slot) t))
+      → mem' ≡ put_texts d (texts_part d mem') mem → (e : Document) → e ≡ with_texts d r → Step d mem e mem' (set_pool (decode d mem) (replaced (decode d mem).pool (Some slot) t))
   over-step mem' r k em e ee =
-      texts-changed d mem s.memory s.counts s.lengths mem' r k.counted em (replaced (decode d mem).pool (some slot) t)
-      (k.pool ∙ ap (λ (x : Pool). replaced x (some slot) t) (sym (pool-held d mem counted))) e ee
+      texts-changed d mem s.memory s.counts s.lengths mem' r k.counted em (replaced (decode d mem).pool (Some slot) t)
+      (k.pool ∙ ap (λ (x : Pool). replaced x (Some slot) t) (sym (pool-held d mem counted))) e ee

@@ -1,8 +1,8 @@
 -- A slot's generation, its order word and its record are written, and the document then is one with a new node.
 -- Assumes nothing.
+use Rattle.std.specs.Prelude.{Option, None, Some}
 use mathlib.Core.Path.{◌≡◌, refl, sym, ap, ◌∙◌}
 use mathlib.Core.Bool.{Bool, true, false}
-use mathlib.Core.Option.{Option, none, some}
 use mathlib.Core.List.{List, [], ◌∷◌, ◌++◌, reverse}
 use Prim.Native.Nat.{ℕ, suc, ◌+◌, ◌*◌, ◌≤◌, ◌<◌, min}
 use native.Mathlib.Omega.{arith}
@@ -14,8 +14,6 @@ use Rattle.blocks.specs.Arena.{block, arena_of}
 use Rattle.records.specs.Records.{record_of}
 use Rattle.slots.specs.Regions.{slots_words, generation_at, free_at, order_at, put_generation, put_record, put_order, no_position}
 use Rattle.records.specs.declared.Node.{Node}
-use Rattle.records.specs.declared.Loaded.{Loaded}
-use Rattle.records.specs.declared.Loaded.TheVariants.{Found}
 use Rattle.records.proofs.Records.{node-back}
 use Rattle.slots.proofs.Regions.{length-put_generation, length-put_record, generation_at-put_generation, generation_at-put_generation-other, free_at-put_generation, record_at-put_generation, order_at-put_generation, record_at-put_record-other, node_at-record_at, generation_at-put_record, free_at-put_record, order_at-put_record, length-put_order, generation_at-put_order, free_at-put_order, record_at-put_order, order_at-put_order, order_at-put_order-other}
 use Rattle.texts.specs.Pool.{Pool}
@@ -88,9 +86,9 @@ module _ (n : ℕ) (w : List ℕ) (long : slots_words n ≤ length w) (s g : ℕ
   pub order-filled : tabulate (order_at n (filled_words n w s g m)) n ≡ set (tabulate (order_at n w) n) s no_position
   order-filled = tabulate-set (order_at n u) (order_at n w) n s no_position sb (λ t k ne. order_other t ne) order-here
 
-  filled-here : loaded_at n u s ≡ Found m
+  filled-here : loaded_at n u s ≡ Some m
   filled-here =
-      loaded-here n v long-v s (record_of m) sb (Found m)
+      loaded-here n v long-v s (record_of m) sb (Some m)
       (omega (arith, generation_at-put_order n r long-r s no_position sb s sb, generation_at-put_generation n w long s g sb)) (node-back m new.fits)
 
   filled-other : (t : ℕ) → t < n → (t ≡ s → ⊥) → loaded_at n u t ≡ loaded_at n w t
@@ -102,7 +100,7 @@ module _ (n : ℕ) (w : List ℕ) (long : slots_words n ≤ length w) (s g : ℕ
       )
 
   -- a column of what is loaded: one entry changed, or one more
-  module _ {A : Type 0} (f : Loaded → A) (e : A) (q : f (Found m) ≡ e) where
+  module _ {A : Type 0} (f : Option Node → A) (e : A) (q : f (Some m) ≡ e) where
     column-changed : (made : ℕ) → made ≤ n → s < made → tabulate (λ t. f (loaded_at n u t)) made ≡ set (tabulate (λ t. f (loaded_at n w t)) made) s e
     column-changed made mb b =
         tabulate-set (λ t. f (loaded_at n u t)) (λ t. f (loaded_at n w t)) made s e b (λ t k ne. ap f (filled-other t (omega arith) ne)) (ap f filled-here ∙ q)
@@ -171,8 +169,8 @@ module _ (p : Pool) (names : List (Option Name)) (lengths : Bool) (d : Document)
         ((ap (λ (k : ℕ). reverse (tabulate (free_at N U) k)) ef ∙ ap reverse (tabulate-same (free_at N U) (free_at N W) free (λ t k. free-same N W long-w s g sb gb m new t (omega arith)))) i) in
         let nodes =
         change_nodes slots
-        ((ap (tabulate (λ t. kind_loaded (loaded_at N U t))) em ∙ column-changed N W long-w s g sb gb m new kind_loaded (some (kind_of m.«data»)) refl made made_in tb) i)
-        ((ap (tabulate (λ t. parent_loaded (loaded_at N U t))) em ∙ column-changed N W long-w s g sb gb m new parent_loaded none new.orphan made made_in tb) i)
+        ((ap (tabulate (λ t. kind_loaded (loaded_at N U t))) em ∙ column-changed N W long-w s g sb gb m new kind_loaded (Some (kind_of m.«data»)) refl made made_in tb) i)
+        ((ap (tabulate (λ t. parent_loaded (loaded_at N U t))) em ∙ column-changed N W long-w s g sb gb m new parent_loaded None new.orphan made made_in tb) i)
         (λ a. (ap (tabulate (λ t. range_loaded a (loaded_at N U t))) em ∙ column-changed N W long-w s g sb gb m new (range_loaded a) (block 0 0) (new.bare a) made made_in tb) i) in
         let lists = change_arenas nodes (λ a. arena_of (entries_of d.limits a) (min (used-same made free a i) (entries_of d.limits a)) (arena_part d a mem)) in
         change_fits (change_order lists (order-filled N W long-w s g sb gb m new i) false) (counts-filled made free made_in fb i) lengths)
@@ -196,8 +194,8 @@ module _ (p : Pool) (names : List (Option Name)) (lengths : Bool) (d : Document)
         (ap (λ (k : ℕ). reverse (tabulate (free_at N U) k)) ef i) in
         let nodes =
         change_nodes slots
-        ((ap (tabulate (λ t. kind_loaded (loaded_at N U t))) em ∙ column-more N W long-w s g sb gb m new kind_loaded (some (kind_of m.«data»)) refl made e) i)
-        ((ap (tabulate (λ t. parent_loaded (loaded_at N U t))) em ∙ column-more N W long-w s g sb gb m new parent_loaded none new.orphan made e) i)
+        ((ap (tabulate (λ t. kind_loaded (loaded_at N U t))) em ∙ column-more N W long-w s g sb gb m new kind_loaded (Some (kind_of m.«data»)) refl made e) i)
+        ((ap (tabulate (λ t. parent_loaded (loaded_at N U t))) em ∙ column-more N W long-w s g sb gb m new parent_loaded None new.orphan made e) i)
         (λ a. (ap (tabulate (λ t. range_loaded a (loaded_at N U t))) em ∙ column-more N W long-w s g sb gb m new (range_loaded a) (block 0 0) (new.bare a) made e) i) in
         let lists = change_arenas nodes (λ a. arena_of (entries_of d.limits a) (min (used-same (made + 1) 0 a i) (entries_of d.limits a)) (arena_part d a mem)) in
         let order = (order-filled N W long-w s g sb gb m new ∙ ap (λ (k : ℕ). set D.order k no_position) (e ∙ sym (length-tabulate (generation_at N W) made))) i in

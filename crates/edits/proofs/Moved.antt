@@ -1,8 +1,8 @@
 -- The steps that take a node off its parent and put it under another.
 -- Assumes nothing.
+use Rattle.std.specs.Prelude.{Option, None, Some}
 use mathlib.Core.Path.{◌≡◌, refl, sym, ap, subst, ◌∙◌}
 use mathlib.Core.Bool.{true, false≢true}
-use mathlib.Core.Option.{Option, none, some}
 use mathlib.Core.List.{List}
 use Prim.Native.Nat.{ℕ, ◌<◌}
 use native.Mathlib.Omega.{arith}
@@ -15,12 +15,8 @@ use Rattle.blocks.proofs.Decoded.{after-length, after-removal-length}
 use Rattle.records.specs.Fields.{ParentFits}
 use Rattle.records.specs.Handles.{handle_index, word_of}
 use Rattle.records.specs.declared.NodeId.{NodeId}
-use Rattle.records.specs.declared.Parent.{Parent}
-use Rattle.records.specs.declared.Parent.TheVariants.{None, Of}
 use Rattle.records.specs.declared.Range.{Range}
 use Rattle.records.specs.declared.Node.{Node}
-use Rattle.records.specs.declared.Loaded.{Loaded}
-use Rattle.records.specs.declared.Loaded.TheVariants.{Found, NoNode}
 use Rattle.records.proofs.Handles.{handle_index-word_of}
 use Rattle.model.specs.Kinds.{Which, which_of}
 use Rattle.model.specs.Doc.{Doc, live_slot, kind_in, kind_at, parent_in, parent_at, range_in}
@@ -55,30 +51,30 @@ module _ (d : Document) (mem : List ℕ) (id : NodeId) (hi : id.index < 42949672
 
   pub record Live : Type 0 where
     pub node : Node
-    pub loaded : loaded_at d.limits.nodes (slots_part d mem) id.index ≡ Found node
+    pub loaded : loaded_at d.limits.nodes (slots_part d mem) id.index ≡ Some node
 
-  pub not_none : loaded_at d.limits.nodes (slots_part d mem) id.index ≡ NoNode → ⊥
+  pub not_none : loaded_at d.limits.nodes (slots_part d mem) id.index ≡ None → ⊥
   not_none e = false≢true (sym (live-none (pool_in d mem) (names_in d mem) (lengths_add d mem) d mem id.index node_made e) ∙ live_here)
 
   pub live-node : Live
   live-node = go (loaded_at d.limits.nodes (slots_part d mem) id.index) refl
     where
-      go : (l : Loaded) → loaded_at d.limits.nodes (slots_part d mem) id.index ≡ l → Live
-      go (Found m) e = record { node = m; loaded = e }
-      go NoNode e = absurd (not_none e)
+      go : (l : Option Node) → loaded_at d.limits.nodes (slots_part d mem) id.index ≡ l → Live
+      go (Some m) e = record { node = m; loaded = e }
+      go None e = absurd (not_none e)
 
-  pub kind-loaded : (m : Node) → loaded_at d.limits.nodes (slots_part d mem) id.index ≡ Found m → kind_at (decode d mem) (word_of id) ≡ kind_of m.«data»
+  pub kind-loaded : (m : Node) → loaded_at d.limits.nodes (slots_part d mem) id.index ≡ Some m → kind_at (decode d mem) (word_of id) ≡ kind_of m.«data»
   kind-loaded m e = kind-index (handle_index (word_of id)) (handle_index-word_of id hi)
     where
       kind-index : (i : ℕ) → i ≡ id.index → kind_in (decode d mem) i ≡ kind_of m.«data»
       kind-index i j = ap (kind_in (decode d mem)) j ∙ kind-found (pool_in d mem) (names_in d mem) (lengths_add d mem) d mem id.index node_made m e
 
-  parent-past : (q : Parent) → PastKept d mem (put_parent d mem id.index q)
+  parent-past : (q : Option NodeId) → PastKept d mem (put_parent d mem id.index q)
   unfolding put_parent
   parent-past q = words-past d mem h.memory id.index node-slot _
 
   -- set_parent
-  pub parent-step : (q : Parent) → ParentFits q → (mem' : List ℕ) → mem' ≡ put_parent d mem id.index q → (r : Document) → r ≡ outdated d
+  pub parent-step : (q : Option NodeId) → ParentFits q → (mem' : List ℕ) → mem' ≡ put_parent d mem id.index q → (r : Document) → r ≡ outdated d
       → Step d mem r mem' (set_parent (decode d mem) (word_of id) (handle_of q))
   parent-step q f mem' e r er =
       let l = live-node in
@@ -112,17 +108,17 @@ module _ (d : Document) (mem : List ℕ) (w : Which) (s : ℕ) (h : BlockHeld d 
       (after-removal-length (arena_part d w mem) (entries_of d.limits w) (arena_used d w) b.start b.len held id)
 
   pub drop-step : (id p : ℕ) → handle_index p ≡ s → which_of (kind_at (decode d mem) id) ≡ w → (mem' : List ℕ) → mem' ≡ put_block d mem w s (removal d mem w s id)
-      → (r : Document) → r ≡ outdated d → Step d mem r mem' (unlink_from (some p) (decode d mem) id)
+      → (r : Document) → r ≡ outdated d → Step d mem r mem' (unlink_from (Some p) (decode d mem) id)
   drop-step id p j k mem' e r er =
-      let stepped : Step d mem (outdated d) (put_block d mem w s (removal d mem w s id)) (unlink_from (some p) (decode d mem) id) =
+      let stepped : Step d mem (outdated d) (put_block d mem w s (removal d mem w s id)) (unlink_from (Some p) (decode d mem) id) =
       record {
         document = unlink-promise d mem w s h id p j k;
         limits = refl;
         size = (removal-past id).size;
         past = (removal-past id).past;
       } in
-      subst (λ (x : Document). Step d mem x mem' (unlink_from (some p) (decode d mem) id)) (sym er)
-      (subst (λ (x : List ℕ). Step d mem (outdated d) x (unlink_from (some p) (decode d mem) id)) (sym e) stepped)
+      subst (λ (x : Document). Step d mem x mem' (unlink_from (Some p) (decode d mem) id)) (sym er)
+      (subst (λ (x : List ℕ). Step d mem (outdated d) x (unlink_from (Some p) (decode d mem) id)) (sym e) stepped)
 
 -- insert_entry
 module _ (d : Document) (mem : List ℕ) (w : Which) (s : ℕ) (o : BlockOpen d mem w s) (k id : ℕ) where
@@ -157,7 +153,7 @@ module _ (d : Document) (mem : List ℕ) (w : Which) (s : ℕ) (o : BlockOpen d 
 -- ---- a node unlinked
 
 module _ (d : Document) (mem : List ℕ) (id : NodeId) (hi : id.index < 4294967296) (h : Hooked d mem (word_of id))
-    (m : Node) (e : loaded_at d.limits.nodes (slots_part d mem) id.index ≡ Found m) where
+    (m : Node) (e : loaded_at d.limits.nodes (slots_part d mem) id.index ≡ Some m) where
   abbrev D : Doc
   D = decode d mem
 
@@ -175,14 +171,14 @@ module _ (d : Document) (mem : List ℕ) (id : NodeId) (hi : id.index < 42949672
       (ap (λ (x : Option ℕ). unlink_from x D (word_of id)) (sym (parent_is ∙ ap handle_of q)))
 
   -- it has one
-  module _ (p : NodeId) (q : m.parent ≡ Of p) (w : Which) (k : w ≡ which_of (kind_of m.«data»)) where
+  module _ (p : NodeId) (q : m.parent ≡ Some p) (w : Which) (k : w ≡ which_of (kind_of m.«data»)) where
     parent-fits : p.index < 4294967296
     parent-fits =
         let f = loaded-fits d.limits.nodes (slots_part d mem) id.index m e in
-        let g : ParentFits (Of p) = subst ParentFits q f.fits-parent in
+        let g : ParentFits (Some p) = subst ParentFits q f.fits-parent in
         g.0
 
-    parent-some : parent_at (decode d mem) (word_of id) ≡ some (word_of p)
+    parent-some : parent_at (decode d mem) (word_of id) ≡ Some (word_of p)
     parent-some = parent_is ∙ ap handle_of q
 
     arena-is : which_of (kind_at (decode d mem) (word_of id)) ≡ w
@@ -197,7 +193,7 @@ module _ (d : Document) (mem : List ℕ) (id : NodeId) (hi : id.index < 42949672
         → (r : Document) → r ≡ outdated d → Step d mem r mem' (unlink (decode d mem) (word_of id))
     unfolding unlink
     unlink-some word ew mem' em r er =
-        step-as d mem r mem' (unlink_from (some (word_of p)) D (word_of id)) (unlink_from (parent_at D (word_of id)) D (word_of id))
+        step-as d mem r mem' (unlink_from (Some (word_of p)) D (word_of id)) (unlink_from (parent_at D (word_of id)) D (word_of id))
         (drop-step d mem w p.index parent-held (word_of id) (word_of p) (handle_index-word_of p parent-fits) arena-is mem'
         (em ∙ ap (λ (x : ℕ). put_block d mem w p.index (removal d mem w p.index x)) ew) r er)
         (ap (λ (x : Option ℕ). unlink_from x D (word_of id)) (sym parent-some))
@@ -209,8 +205,8 @@ unfolding unlink
 live-unlink D h i = go (parent_at D h)
   where
     go : (q : Option ℕ) → live_slot (unlink_from q D h) i ≡ live_slot D i
-    go none = refl
-    go (some p) = refl
+    go None = refl
+    go (Some p) = refl
 
 module _ (d : Document) (mem : List ℕ) (h : ℕ) (e : Document) (mem₁ : List ℕ) (s : Step d mem e mem₁ (unlink (decode d mem) h)) where
   pub unlinked-node : NodeHeld d mem h → NodeHeld e mem₁ h
@@ -220,15 +216,15 @@ module _ (d : Document) (mem : List ℕ) (h : ℕ) (e : Document) (mem₁ : List
         live = ap (λ (x : Doc). live_slot x (handle_index h)) s.document ∙ live-unlink (decode d mem) h (handle_index h) ∙ n.live;
       }
 
-  pub unhook-step : (r : Document) (mem₂ : List ℕ) → Step e mem₁ r mem₂ (set_parent (decode e mem₁) h none) → Step d mem r mem₂ (unhook (decode d mem) h)
-  unhook-step r mem₂ t = step-next d mem e mem₁ (unlink (decode d mem) h) s (λ (x : Doc). set_parent x h none) r mem₂ t
+  pub unhook-step : (r : Document) (mem₂ : List ℕ) → Step e mem₁ r mem₂ (set_parent (decode e mem₁) h None) → Step d mem r mem₂ (unhook (decode d mem) h)
+  unhook-step r mem₂ t = step-next d mem e mem₁ (unlink (decode d mem) h) s (λ (x : Doc). set_parent x h None) r mem₂ t
 
 -- ---- attach: the parent is set, then the node is linked
 
 module _ (d : Document) (mem : List ℕ) (w : Which) (h : ℕ) (parent : NodeId) (pi : parent.index < 4294967296)
-    (e : Document) (mem₁ : List ℕ) (s : Step d mem e mem₁ (set_parent (decode d mem) h (some (word_of parent)))) where
+    (e : Document) (mem₁ : List ℕ) (s : Step d mem e mem₁ (set_parent (decode d mem) h (Some (word_of parent)))) where
   abbrev S : Doc
-  S = set_parent (decode d mem) h (some (word_of parent))
+  S = set_parent (decode d mem) h (Some (word_of parent))
 
   pub open-adopted : memory_ok d (length mem) ≡ true → (i : ℕ) → BlockOpen d mem w i → BlockOpen e mem₁ w i
   unfolding set_parent

@@ -1,8 +1,8 @@
 -- The calls that move a node: what they ask and what they do follows from what their plans decided.
 -- Assumes nothing.
+use Rattle.std.specs.Prelude.{Option, None, Some}
 use mathlib.Core.Path.{◌≡◌, refl}
 use mathlib.Core.Bool.{true, false}
-use mathlib.Core.Option.{Option, none, some}
 use mathlib.Core.List.{List}
 use Prim.Native.Nat.{ℕ}
 use lib.ListN.{length}
@@ -50,7 +50,7 @@ module _ (d : Document) (mem : List ℕ) (p h : ℕ) (u : Undamaged d mem) (at :
   alone = unhook (decode d mem) h
 
   abbrev check : ℕ
-  check = check_move (view_at D₀ h) (view_at D₀ p) (on_path (length D₀.gens) D₀ h p) (root_taken D₀ (some h))
+  check = check_move (view_at D₀ h) (view_at D₀ p) (on_path (length D₀.gens) D₀ h p) (root_taken D₀ (Some h))
 
   abbrev moved : Out
   moved = answers (attach alone children p (or_else (length (list_at alone children p)) at) h) done
@@ -67,17 +67,17 @@ module _ (d : Document) (mem : List ℕ) (p h : ℕ) (u : Undamaged d mem) (at :
 
 module _ (d : Document) (mem : List ℕ) (p h : ℕ) (a : Admitted (reparent h p) d mem) where
   pub admitted-last : Movable d mem p h
-  admitted-last = move-movable d mem p h a.undamaged none a.accepted
+  admitted-last = move-movable d mem p h a.undamaged None a.accepted
 
   pub last-performed : (r : Document) (mem' : List ℕ)
       → Step d mem r mem' (attach (unhook (decode d mem) h) children p (length (list_at (unhook (decode d mem) h) children p)) h)
       → Performed (reparent h p) d mem done r mem'
-  last-performed r mem' s = performed (reparent h p) d mem _ (move-open d mem p h a.undamaged none a.accepted) done refl r mem' s
+  last-performed r mem' s = performed (reparent h p) d mem _ (move-open d mem p h a.undamaged None a.accepted) done refl r mem' s
 
 module _ (d : Document) (mem : List ℕ) (p i h : ℕ) (a : Admitted (insert-at p i h) d mem) where
   pub admitted-at : Movable d mem p h
-  admitted-at = move-movable d mem p h a.undamaged (some i) a.accepted
+  admitted-at = move-movable d mem p h a.undamaged (Some i) a.accepted
 
   pub at-performed : (r : Document) (mem' : List ℕ) → Step d mem r mem' (attach (unhook (decode d mem) h) children p i h)
       → Performed (insert-at p i h) d mem done r mem'
-  at-performed r mem' s = performed (insert-at p i h) d mem _ (move-open d mem p h a.undamaged (some i) a.accepted) done refl r mem' s
+  at-performed r mem' s = performed (insert-at p i h) d mem _ (move-open d mem p h a.undamaged (Some i) a.accepted) done refl r mem' s

@@ -1,8 +1,9 @@
 -- A new node whose texts and name are stored first: the steps in a row are the model's one.
 -- Assumes nothing.
+use Rattle.words.specs.declared.TextSlot.{TextSlot}
+use Rattle.std.specs.Prelude.{Option, None}
 use mathlib.Core.Path.{◌≡◌, refl, sym, ap, ap₂, subst, ◌∙◌}
 use mathlib.Core.Bool.{true}
-use mathlib.Core.Option.{Option}
 use mathlib.Core.List.{List, [], ◌∷◌}
 use Prim.Native.Nat.{ℕ, ◌<◌}
 use native.Mathlib.Omega.{arith}
@@ -12,7 +13,6 @@ use Rattle.words.proofs.Tests.{and_left, and_right}
 use Rattle.records.specs.Fields.{CharsFit}
 use Rattle.records.specs.Handles.{handle_index}
 use Rattle.words.specs.declared.NameId.{NameId}
-use Rattle.records.specs.declared.Chars.{Chars}
 use Rattle.records.specs.declared.NodeData.{NodeData}
 use Rattle.records.specs.declared.NodeData.TheVariants as given
 use Rattle.records.specs.declared.Node.{Node}
@@ -51,15 +51,15 @@ newborn-element n b =
     record {
       fits = record { fits-data = (b, no-block, no-block); fits-parent = Prim.tt; fits-children = no-block };
       orphan = refl;
-      bare = bare (given.Element n no_block no_block) (λ w. none w);
+      bare = bare (given.Element n no_block no_block) (λ w. None w);
     }
   where
-    none : (w : Which) → element_range w (given.Element n no_block no_block) ≡ block 0 0
-    none children = refl
-    none attributes = refl
-    none namespaces = refl
+    None : (w : Which) → element_range w (given.Element n no_block no_block) ≡ block 0 0
+    None children = refl
+    None attributes = refl
+    None namespaces = refl
 
-pub newborn-attribute : (n : NameId) (v : Chars) → n.0 < 4294967296 → CharsFit v → Newborn (new_node (given.Attr n v))
+pub newborn-attribute : (n : NameId) (v : Option TextSlot) → n.0 < 4294967296 → CharsFit v → Newborn (new_node (given.Attr n v))
 newborn-attribute n v b f =
     record {
       fits = record { fits-data = (b, f); fits-parent = Prim.tt; fits-children = (refl, refl) };
@@ -67,7 +67,7 @@ newborn-attribute n v b f =
       bare = bare (given.Attr n v) (λ w. refl);
     }
 
-pub newborn-text : (v : Chars) → CharsFit v → Newborn (new_node (given.Text v))
+pub newborn-text : (v : Option TextSlot) → CharsFit v → Newborn (new_node (given.Text v))
 newborn-text v f =
     record {
       fits = record { fits-data = f; fits-parent = Prim.tt; fits-children = no-block };
@@ -75,7 +75,7 @@ newborn-text v f =
       bare = bare (given.Text v) (λ w. refl);
     }
 
-pub newborn-comment : (v : Chars) → CharsFit v → Newborn (new_node (given.Comment v))
+pub newborn-comment : (v : Option TextSlot) → CharsFit v → Newborn (new_node (given.Comment v))
 newborn-comment v f =
     record {
       fits = record { fits-data = f; fits-parent = Prim.tt; fits-children = no-block };
@@ -83,7 +83,7 @@ newborn-comment v f =
       bare = bare (given.Comment v) (λ w. refl);
     }
 
-pub newborn-namespace : (p u : Chars) → CharsFit p → CharsFit u → Newborn (new_node (given.Namespace p u))
+pub newborn-namespace : (p u : Option TextSlot) → CharsFit p → CharsFit u → Newborn (new_node (given.Namespace p u))
 newborn-namespace p u f g =
     record {
       fits = record { fits-data = (f, g); fits-parent = Prim.tt; fits-children = (refl, refl) };
@@ -91,7 +91,7 @@ newborn-namespace p u f g =
       bare = bare (given.Namespace p u) (λ w. refl);
     }
 
-pub newborn-instruction : (t c : Chars) → CharsFit t → CharsFit c → Newborn (new_node (given.ProcessingInstruction t c))
+pub newborn-instruction : (t c : Option TextSlot) → CharsFit t → CharsFit c → Newborn (new_node (given.ProcessingInstruction t c))
 newborn-instruction t c f g =
     record {
       fits = record { fits-data = (f, g); fits-parent = Prim.tt; fits-children = no-block };

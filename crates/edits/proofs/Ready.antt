@@ -1,8 +1,8 @@
 -- What the steps ask follows from the eight rules and from what a plan decided.
 -- Assumes nothing.
+use Rattle.std.specs.Prelude.{Option, Some}
 use mathlib.Core.Path.{◌≡◌, refl, sym, ap, ◌∙◌}
 use mathlib.Core.Bool.{true, false≢true}
-use mathlib.Core.Option.{Option, some}
 use mathlib.Core.List.{List}
 use Prim.Native.Nat.{ℕ, ◌%◌, ◌<◌}
 use native.Mathlib.Omega.{arith}
@@ -53,7 +53,7 @@ module _ (d : Document) (mem : List ℕ) (ok : memory_ok d (length mem) ≡ true
   pub rules-hooked : (h : ℕ) → resolves (decode d mem) h ≡ true → Hooked d mem h
   rules-hooked h e = record { node = rules-node h e; block = above }
     where
-      above : (p : ℕ) → parent_at (decode d mem) h ≡ some p → BlockHeld d mem (which_of (kind_at (decode d mem) h)) (handle_index p)
+      above : (p : ℕ) → parent_at (decode d mem) h ≡ Some p → BlockHeld d mem (which_of (kind_at (decode d mem) h)) (handle_index p)
       above p q =
           let o = r.parents.owner (handle_index h) p (resolved_live h e) q in
           rules-held d mem (which_of (kind_at (decode d mem) h)) (handle_index p) ok r (resolved_live p o.0)
@@ -123,7 +123,7 @@ module _ (d : Document) (mem : List ℕ) (ok : memory_ok d (length mem) ≡ true
             above held.counts held.owner f;
       }
     where
-      above : (q : ℕ) → parent_at (decode d mem) h ≡ some q → (live_slot (decode d mem) (handle_index q) ≡ true) × (handle_index q < length ((decode d mem).ranges children))
+      above : (q : ℕ) → parent_at (decode d mem) h ≡ Some q → (live_slot (decode d mem) (handle_index q) ≡ true) × (handle_index q < length ((decode d mem).ranges children))
       above q e =
           let o = r.parents.owner (handle_index h) q (resolved_live h eh) e in
           let l = resolved_live q o.0 in

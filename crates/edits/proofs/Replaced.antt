@@ -1,8 +1,9 @@
 -- A replaced text: what its steps ask, and that the steps in a row are the model's change.
 -- Assumes nothing.
+use Rattle.std.proofs.lemmas.Option.{none-some}
+use Rattle.std.specs.Prelude.{Option, None, Some}
 use mathlib.Core.Path.{◌≡◌, refl, sym, ap, ap₂, subst, ◌∙◌}
 use mathlib.Core.Bool.{Bool, true, cond}
-use mathlib.Core.Option.{Option, none, some, none-ne-some}
 use mathlib.Core.List.{List, [], ◌∷◌, Memᴰ}
 use Prim.Native.Nat.{ℕ, ◌<◌}
 use native.Mathlib.Omega.{arith}
@@ -14,10 +15,7 @@ use Rattle.words.proofs.Tests.{and_left}
 use Rattle.records.specs.Handles.{handle_index, handle_generation, word_of}
 use Rattle.records.specs.declared.NodeId.{NodeId}
 use Rattle.words.specs.declared.TextSlot.{TextSlot}
-use Rattle.records.specs.declared.Chars.{Chars}
-use Rattle.records.specs.declared.Chars.TheVariants.{Empty, Expanded}
 use Rattle.records.specs.declared.Node.{Node}
-use Rattle.records.specs.declared.Loaded.TheVariants.{Found}
 use Rattle.texts.specs.Pool.{Pool, stored, stored_slot, replaced}
 use Rattle.texts.proofs.Pool.{replaced-none}
 use Rattle.model.specs.Kinds.{Kind, root, element, attribute, text, comment, namespace, instruction, texts_of, replaceable, with_text}
@@ -50,17 +48,17 @@ use Rattle.edits.proofs.Accepted.{guard-open, checked-room, text-there, performe
 
 -- ---- the slot of a text that can be replaced
 
-text-held : (k : Kind ℕ (Option ℕ)) (s : ℕ) → or_else none (replaceable k) ≡ some s → Memᴰ s (slots_held (texts_of k))
-text-held root s e = absurd (none-ne-some s e)
-text-held (element n) s e = absurd (none-ne-some s e)
+text-held : (k : Kind ℕ (Option ℕ)) (s : ℕ) → or_else None (replaceable k) ≡ Some s → Memᴰ s (slots_held (texts_of k))
+text-held root s e = absurd (none-some s e)
+text-held (element n) s e = absurd (none-some s e)
 text-held (attribute n v) s e = held-here v [] s e
 text-held (text t) s e = held-here t [] s e
-text-held (comment t) s e = absurd (none-ne-some s e)
+text-held (comment t) s e = absurd (none-some s e)
 text-held (namespace p u) s e = held-there p (u ∷ []) s (held-here u [] s e)
-text-held (instruction t c) s e = absurd (none-ne-some s e)
+text-held (instruction t c) s e = absurd (none-some s e)
 
 -- it stays where it is
-text_same : (k : Kind ℕ (Option ℕ)) (s : ℕ) → or_else none (replaceable k) ≡ some s → with_text k (some s) ≡ k
+text_same : (k : Kind ℕ (Option ℕ)) (s : ℕ) → or_else None (replaceable k) ≡ Some s → with_text k (Some s) ≡ k
 text_same root s e = refl
 text_same (element n) s e = refl
 text_same (attribute n v) s e = ap (attribute n) (sym e)
@@ -105,18 +103,18 @@ module _ (d : Document) (mem : List ℕ) (h : ℕ) (t : List ℕ) (e : Document)
   unfolding set_pool set_kind
   fill-same x = refl
 
-  pub fill_step : (f : Chars) → slot_of f ≡ stored_slot (decode d mem).pool t → (mem₂ : List ℕ)
+  pub fill_step : (f : Option TextSlot) → slot_of f ≡ stored_slot (decode d mem).pool t → (mem₂ : List ℕ)
       → Step e mem₁ e mem₂ (set_kind (decode e mem₁) h (with_text (kind_at (decode e mem₁) h) (slot_of f)) (decode e mem₁).pool)
-      → Step d mem e mem₂ (with_replaced (decode d mem) h none t)
+      → Step d mem e mem₂ (with_replaced (decode d mem) h None t)
   fill_step f q mem₂ b =
-      step-as d mem e mem₂ _ (with_replaced (decode d mem) h none t)
+      step-as d mem e mem₂ _ (with_replaced (decode d mem) h None t)
       (step-next d mem e mem₁ (set_pool (decode d mem) Q) a (λ (x : Doc). set_kind x h (with_text (kind_at x h) (slot_of f)) x.pool) e mem₂ b)
       (fill-same (slot_of f)
       ∙ ap₂ (λ (x : Option ℕ) (p : Pool). set_kind (decode d mem) h (with_text (kind_at (decode d mem) h) x) p) q (sym (replaced-none (decode d mem).pool t)))
 
 -- ---- a text with a slot keeps it
 
-kind-kept : (D : Doc) (h : ℕ) (k : Kind ℕ (Option ℕ)) (p : Pool) → set D.kinds (handle_index h) (some k) ≡ D.kinds → set_pool D p ≡ set_kind D h k p
+kind-kept : (D : Doc) (h : ℕ) (k : Kind ℕ (Option ℕ)) (p : Pool) → set D.kinds (handle_index h) (Some k) ≡ D.kinds → set_pool D p ≡ set_kind D h k p
 unfolding set_pool set_kind
 kind-kept D h k p e = λ i. change_pool (change_nodes D (sym e i) D.parents D.ranges) p
 
@@ -131,7 +129,7 @@ module _ (d : Document) (mem : List ℕ) (h : ℕ) (t : List ℕ) (r : Replaceab
   replaced-node = rules-node d mem r.undamaged.memory r.undamaged.rules h r.live
 
   -- the field is empty
-  module _ (q : replaceable_at (decode d mem) h ≡ none) where
+  module _ (q : replaceable_at (decode d mem) h ≡ None) where
     empty-storable : Storable d mem t
     empty-storable =
         record {
@@ -140,11 +138,11 @@ module _ (d : Document) (mem : List ℕ) (h : ℕ) (t : List ℕ) (r : Replaceab
           room = ap (λ (x : Option ℕ). replacement_fits D x t) (sym q) ∙ r.room;
         }
 
-    empty-as : (e : Document) (mem' : List ℕ) → Step d mem e mem' (with_replaced (decode d mem) h none t) → Step d mem e mem' (with_replaced (decode d mem) h (replaceable_at (decode d mem) h) t)
-    empty-as e mem' s = step-as d mem e mem' (with_replaced D h none t) (with_replaced D h (replaceable_at D h) t) s (ap (λ (x : Option ℕ). with_replaced D h x t) (sym q))
+    empty-as : (e : Document) (mem' : List ℕ) → Step d mem e mem' (with_replaced (decode d mem) h None t) → Step d mem e mem' (with_replaced (decode d mem) h (replaceable_at (decode d mem) h) t)
+    empty-as e mem' s = step-as d mem e mem' (with_replaced D h None t) (with_replaced D h (replaceable_at D h) t) s (ap (λ (x : Option ℕ). with_replaced D h x t) (sym q))
 
   -- it has a slot
-  module _ (s : ℕ) (q : replaceable_at (decode d mem) h ≡ some s) where
+  module _ (s : ℕ) (q : replaceable_at (decode d mem) h ≡ Some s) where
     slot-overwritable : Overwritable d mem s t
     slot-overwritable =
         record {
@@ -155,37 +153,37 @@ module _ (d : Document) (mem : List ℕ) (h : ℕ) (t : List ℕ) (r : Replaceab
           room = ap (λ (x : Option ℕ). replacement_fits D x t) (sym q) ∙ r.room;
         }
 
-    kinds_kept : set (decode d mem).kinds (handle_index h) (some (with_text (kind_at (decode d mem) h) (some s))) ≡ (decode d mem).kinds
+    kinds_kept : set (decode d mem).kinds (handle_index h) (Some (with_text (kind_at (decode d mem) h) (Some s))) ≡ (decode d mem).kinds
     kinds_kept =
         let z = shape (pool_in d mem) (names_in d mem) (lengths_add d mem) d mem r.undamaged.memory in
-        set-kept D.kinds (handle_index h) none (some (with_text (kind_at D h) (some s))) (omega (arith, z.kinds, live-below D (handle_index h) live_here))
-        (live-node D (handle_index h) live_here ∙ ap some (sym (text_same (kind_at D h) s q)))
+        set-kept D.kinds (handle_index h) None (Some (with_text (kind_at D h) (Some s))) (omega (arith, z.kinds, live-below D (handle_index h) live_here))
+        (live-node D (handle_index h) live_here ∙ ap Some (sym (text_same (kind_at D h) s q)))
 
-    slot-as : (e : Document) (mem' : List ℕ) → Step d mem e mem' (set_pool (decode d mem) (replaced (decode d mem).pool (some s) t))
+    slot-as : (e : Document) (mem' : List ℕ) → Step d mem e mem' (set_pool (decode d mem) (replaced (decode d mem).pool (Some s) t))
         → Step d mem e mem' (with_replaced (decode d mem) h (replaceable_at (decode d mem) h) t)
     slot-as e mem' a =
-        step-as d mem e mem' (set_pool D (replaced D.pool (some s) t)) (with_replaced D h (replaceable_at D h) t) a
-        (kind-kept D h (with_text (kind_at D h) (some s)) (replaced D.pool (some s) t) kinds_kept ∙ ap (λ (x : Option ℕ). with_replaced D h x t) (sym q))
+        step-as d mem e mem' (set_pool D (replaced D.pool (Some s) t)) (with_replaced D h (replaceable_at D h) t) a
+        (kind-kept D h (with_text (kind_at D h) (Some s)) (replaced D.pool (Some s) t) kinds_kept ∙ ap (λ (x : Option ℕ). with_replaced D h x t) (sym q))
 
 -- ---- the field as the code reads it
 
 module _ (d : Document) (mem : List ℕ) (id : NodeId) (hi : id.index < 4294967296) (t : List ℕ) (r : Replaceable d mem (word_of id) t)
-    (m : Node) (e : loaded_at d.limits.nodes (slots_part d mem) id.index ≡ Found m) (f : Chars) (k : slot_of f ≡ or_else none (replaceable (kind_of m.«data»))) where
+    (m : Node) (e : loaded_at d.limits.nodes (slots_part d mem) id.index ≡ Some m) (f : Option TextSlot) (k : slot_of f ≡ or_else None (replaceable (kind_of m.«data»))) where
   field_is : replaceable_at (decode d mem) (word_of id) ≡ slot_of f
   field_is =
-      ap (λ (x : Kind ℕ (Option ℕ)). or_else none (replaceable x)) (kind-loaded d mem id hi (replaced-node d mem (word_of id) t r) m e) ∙ sym k
+      ap (λ (x : Kind ℕ (Option ℕ)). or_else None (replaceable x)) (kind-loaded d mem id hi (replaced-node d mem (word_of id) t r) m e) ∙ sym k
 
-  pub empty-ready : f ≡ Empty → NodeHeld d mem (word_of id) × Storable d mem t
+  pub empty-ready : f ≡ None → NodeHeld d mem (word_of id) × Storable d mem t
   empty-ready q = (replaced-node d mem (word_of id) t r, empty-storable d mem (word_of id) t r (field_is ∙ ap slot_of q))
 
-  pub empty-step : f ≡ Empty → (e₁ : Document) (mem₁ : List ℕ) → Step d mem e₁ mem₁ (with_replaced (decode d mem) (word_of id) none t)
+  pub empty-step : f ≡ None → (e₁ : Document) (mem₁ : List ℕ) → Step d mem e₁ mem₁ (with_replaced (decode d mem) (word_of id) None t)
       → Step d mem e₁ mem₁ (with_replaced (decode d mem) (word_of id) (replaceable_at (decode d mem) (word_of id)) t)
   empty-step q e₁ mem₁ s = empty-as d mem (word_of id) t r (field_is ∙ ap slot_of q) e₁ mem₁ s
 
-  pub slot-ready : (s : TextSlot) → f ≡ Expanded s → Overwritable d mem s.0 t
+  pub slot-ready : (s : TextSlot) → f ≡ Some s → Overwritable d mem s.0 t
   slot-ready s q = slot-overwritable d mem (word_of id) t r s.0 (field_is ∙ ap slot_of q)
 
-  pub slot_step : (s : TextSlot) → f ≡ Expanded s → (e₁ : Document) (mem₁ : List ℕ) → Step d mem e₁ mem₁ (set_pool (decode d mem) (replaced (decode d mem).pool (some s.0) t))
+  pub slot_step : (s : TextSlot) → f ≡ Some s → (e₁ : Document) (mem₁ : List ℕ) → Step d mem e₁ mem₁ (set_pool (decode d mem) (replaced (decode d mem).pool (Some s.0) t))
       → Step d mem e₁ mem₁ (with_replaced (decode d mem) (word_of id) (replaceable_at (decode d mem) (word_of id)) t)
   slot_step s q e₁ mem₁ a = slot-as d mem (word_of id) t r s.0 (field_is ∙ ap slot_of q) e₁ mem₁ a
 

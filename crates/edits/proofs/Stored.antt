@@ -2,7 +2,6 @@
 -- Assumes nothing.
 use mathlib.Core.Path.{◌≡◌, refl, sym, ap, subst, ◌∙◌}
 use mathlib.Core.Bool.{true}
-use mathlib.Core.Option.{some}
 use mathlib.Core.List.{List, [], ◌∷◌}
 use Prim.Native.Nat.{ℕ, ◌+◌, ◌≤◌, ◌<◌}
 use native.Mathlib.Omega.{arith}
@@ -11,13 +10,11 @@ use lib.ListN.{length}
 use lib.Dec.{eqb}
 use Rattle.words.specs.Lists.{count_of}
 use Rattle.words.specs.declared.TextSlot.{TextSlot}
-use Rattle.records.specs.declared.Chars.{Chars}
 use Rattle.texts.specs.Pool.{Pool, stored, stored_from, stored_slot, slots_for, texts_fit}
 use Rattle.texts.specs.Rule.{FreeTexts}
 use Rattle.texts.specs.Words.{field_of, counts_fit, Counted, PoolHeld, StoredTo}
 use Rattle.texts.specs.declared.storing.Stored.{Stored}
-use Rattle.texts.specs.declared.storing.TextField.{TextField}
-use Rattle.texts.specs.declared.storing.TextField.TheVariants.{Slot}
+use Rattle.std.specs.Prelude.{Option, Some}
 use Rattle.texts.proofs.Pool.{stored-slots, stored-free, stored_bytes, texts_fit-within, within-texts_fit}
 use Rattle.texts.proofs.Rule.{stored-free-texts}
 use Rattle.texts.proofs.Words.{fits-pool}
@@ -105,12 +102,12 @@ module _ (d : Document) (mem t : List ℕ) (s : Storable d mem t) where
         texts-changed d mem s.memory s.ready.counts s.ready.lengths mem' r.counts k.counted em (stored (decode d mem).pool t)
         (k.pool ∙ ap (λ (x : Pool). stored x t) (sym (pool-held d mem counted))) e ee
 
-    pub stored-field : (f : Chars) → slot_of f ≡ field_of r.field → slot_of f ≡ stored_slot (decode d mem).pool t
+    pub stored-field : (f : Option TextSlot) → slot_of f ≡ field_of r.field → slot_of f ≡ stored_slot (decode d mem).pool t
     stored-field f q = q ∙ k.field ∙ ap (λ (x : Pool). stored_slot x t) (sym (pool-held d mem counted))
 
 -- ---- the pool's field as a node's
 
-pub slot-field : (f : TextField) (s : TextSlot) → f ≡ Slot s → s.0 < 4294967296 → (some s.0 ≡ field_of f) × (s.0 < 4294967296)
+pub slot-field : (f : Option TextSlot) (s : TextSlot) → f ≡ Some s → s.0 < 4294967296 → (Some s.0 ≡ field_of f) × (s.0 < 4294967296)
 slot-field f s e h = (sym (ap field_of e), h)
 
 -- ---- two texts stored, one after the other
@@ -168,5 +165,5 @@ module _ (d : Document) (mem t u : List ℕ) (s : TwoStorable d mem t u) where
         (step-next d mem e mem₁ E a (λ (x : Doc). set_pool x (stored x.pool u)) r mem₂ b)
         (ap (λ (p : Pool). set_pool E (stored p u)) pool-there ∙ again)
 
-    pub second-field : (f : Chars) → slot_of f ≡ stored_slot (decode e mem₁).pool u → slot_of f ≡ stored_slot (stored (decode d mem).pool t) u
+    pub second-field : (f : Option TextSlot) → slot_of f ≡ stored_slot (decode e mem₁).pool u → slot_of f ≡ stored_slot (stored (decode d mem).pool t) u
     second-field f q = q ∙ ap (λ (p : Pool). stored_slot p u) between

@@ -1,8 +1,8 @@
 -- A block still lies in its arena once a node was taken off its parent.
 -- Assumes nothing.
+use Rattle.std.specs.Prelude.{Option, None, Some}
 use mathlib.Core.Path.{◌≡◌, refl, sym, ap, subst, ◌∙◌}
 use mathlib.Core.Bool.{Bool, true, false, cond}
-use mathlib.Core.Option.{Option, none, some}
 use Prim.Native.Nat.{ℕ, ◌<◌}
 use native.Mathlib.Decide.{ℕ_discrete}
 use lib.ListN.{length, get_or, set}
@@ -59,14 +59,14 @@ module _ (D : Doc) (blocks : Blocks D) (w : Which) (s : ℕ) (live : live_slot D
       go false e = inside
 
   -- then it has room there, if the plan says so
-  pub unhooked-room : (h : ℕ) → ((p : ℕ) → parent_at D h ≡ some p → (live_slot D (handle_index p) ≡ true) × (handle_index p < length (D.ranges w)))
+  pub unhooked-room : (h : ℕ) → ((p : ℕ) → parent_at D h ≡ Some p → (live_slot D (handle_index p) ≡ true) × (handle_index p < length (D.ranges w)))
       → D.counts_fit ≡ true → has_range w (kind_in D s) ≡ true → has_room ((unhook D h).arenas w) (range_in (unhook D h) w s) ≡ true → RoomIn (unhook D h) w s
   unfolding unlink set_parent
   unhooked-room h above counts owner room = go (parent_at D h) refl room
     where
-      go : (q : Option ℕ) → parent_at D h ≡ q → has_room ((unlink_from q D h).arenas w) (range_in (unlink_from q D h) w s) ≡ true → RoomIn (set_parent (unlink_from q D h) h none) w s
-      go none e f = record { counts = counts; live = live; owner = owner; inside = inside; room = f }
-      go (some p) e f =
+      go : (q : Option ℕ) → parent_at D h ≡ q → has_room ((unlink_from q D h).arenas w) (range_in (unlink_from q D h) w s) ≡ true → RoomIn (set_parent (unlink_from q D h) h None) w s
+      go None e f = record { counts = counts; live = live; owner = owner; inside = inside; room = f }
+      go (Some p) e f =
           let o = above p e in
           record {
             counts = counts;

@@ -1,6 +1,5 @@
 -- What the writing steps ask.
-use Rattle.std.specs.Prelude.{◌≡◌, true, List, ℕ, length}
-use Rattle.std.proofs.Math.Option.{some}
+use Rattle.std.specs.Prelude.{◌≡◌, true, List, ℕ, length, Some}
 use Rattle.blocks.specs.Arena.{has_room}
 use Rattle.blocks.specs.Rule.{Inside}
 use Rattle.records.specs.Handles.{handle_index}
@@ -21,7 +20,7 @@ pub record NodeHeld (d : Document) (mem : List ℕ) (h : ℕ) : Type 0 where
 -- h can be taken off its parent, where it has one: the parent's block of its kind lies in its arena
 pub record Hooked (d : Document) (mem : List ℕ) (h : ℕ) : Type 0 where
   pub node : NodeHeld d mem h
-  pub block : (p : ℕ) → parent_at (decode d mem) h ≡ some p → BlockHeld d mem (which_of (kind_at (decode d mem) h)) (handle_index p)
+  pub block : (p : ℕ) → parent_at (decode d mem) h ≡ Some p → BlockHeld d mem (which_of (kind_at (decode d mem) h)) (handle_index p)
 
 -- h can be put into p's block, which has room
 pub record Attachable (d : Document) (mem : List ℕ) (w : Which) (p h : ℕ) : Type 0 where

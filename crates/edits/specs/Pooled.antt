@@ -1,6 +1,5 @@
 -- The change of the document that other words of the texts or of the names are.
-use Rattle.std.proofs.Math.Option.{Option}
-use Rattle.std.specs.Prelude.{List}
+use Rattle.std.specs.Prelude.{List, Option}
 use Rattle.texts.specs.Pool.{Pool}
 use Rattle.names.specs.Table.{Name}
 use Rattle.model.specs.Doc.{Doc, change_pool, change_names}

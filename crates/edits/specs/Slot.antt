@@ -1,11 +1,9 @@
 -- A slot is taken for a new node.
-use Rattle.std.specs.Prelude.{◌≡◌, true, List, ℕ, ◌%◌, ◌<◌, length, get_or}
-use Rattle.std.proofs.Math.Option.{none}
+use Rattle.std.specs.Prelude.{◌≡◌, true, List, ℕ, ◌%◌, ◌<◌, length, get_or, None}
 use Rattle.blocks.specs.Arena.{block}
 use Rattle.records.specs.Fields.{NodeFits}
 use Rattle.records.specs.Handles.{handle_index}
 use Rattle.records.specs.declared.Range.{Range}
-use Rattle.records.specs.declared.Parent.TheVariants.{None}
 use Rattle.records.specs.declared.NodeData.{NodeData}
 use Rattle.records.specs.declared.Node.{Node}
 use Rattle.model.specs.Kinds.{Which}
@@ -39,7 +37,7 @@ new_node d = record { «data» = d; parent = None; children = no_block }
 -- a node in no list, with all its blocks (0, 0)
 pub record Newborn (m : Node) : Type 0 where
   pub fits : NodeFits m
-  pub orphan : handle_of m.parent ≡ none
+  pub orphan : handle_of m.parent ≡ None
   pub bare : (w : Which) → range_of w m ≡ block 0 0
 
 -- a slot, and room in p's block of this arena

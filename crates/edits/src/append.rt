@@ -29,10 +29,8 @@ pub fn append_node(
     ensures id_value { word_of result.id ≡ next_handle (decode d mem.old) }
 {
     let made = born(d, mem, node);
-    let id = made.id;
-    let alone = made.document;
-    let document = attach_last(alone, mem, arena, parent, id);
-    NewNode { document, id }
+    let document = attach_last(made.document, mem, arena, parent, made.id);
+    NewNode { document, ..made }
 }
 
 // ---- the calls, behind their plans: the name or the texts first, then the node
@@ -48,16 +46,12 @@ pub fn do_append_element(
     ensures { Performed (append-element (word_of parent) namespace.now local.now) d mem.old (made (word_of result.id)) result.document mem.new }
 {
     let interned = intern_name(d, mem, namespace, local);
-    let document = interned.document;
-    let name = interned.name;
-    let attributes = Range { start: 0, len: 0 };
-    let namespaces = Range { start: 0, len: 0 };
     let node = new_node(NodeData::Element {
-        name,
-        attributes,
-        namespaces,
+        name: interned.name,
+        attributes: Range { start: 0, len: 0 },
+        namespaces: Range { start: 0, len: 0 },
     });
-    append_node(document, mem, Arena::Children, parent, node)
+    append_node(interned.document, mem, Arena::Children, parent, node)
 }
 
 pub fn do_append_text(d: Document, mem: &mut [u64], parent: NodeId, text: &[u8]) -> NewNode
@@ -65,21 +59,18 @@ pub fn do_append_text(d: Document, mem: &mut [u64], parent: NodeId, text: &[u8])
     ensures { Performed (append-text (word_of parent) text.now) d mem.old (made (word_of result.id)) result.document mem.new }
 {
     let stored = store_text(d, mem, text);
-    let document = stored.document;
-    let field = stored.field;
-    let node = new_node(NodeData::Text(field));
-    append_node(document, mem, Arena::Children, parent, node)
+    let node = new_node(NodeData::Text(stored.field));
+    append_node(stored.document, mem, Arena::Children, parent, node)
 }
 
+// Stays: a body in common with `do_append_text` would be given the constructor and, in its clauses, the call; each is three lines.
 pub fn do_append_comment(d: Document, mem: &mut [u64], parent: NodeId, text: &[u8]) -> NewNode
     requires { Admitted (append-comment (word_of parent) text.now) d mem.old }
     ensures { Performed (append-comment (word_of parent) text.now) d mem.old (made (word_of result.id)) result.document mem.new }
 {
     let stored = store_text(d, mem, text);
-    let document = stored.document;
-    let field = stored.field;
-    let node = new_node(NodeData::Comment(field));
-    append_node(document, mem, Arena::Children, parent, node)
+    let node = new_node(NodeData::Comment(stored.field));
+    append_node(stored.document, mem, Arena::Children, parent, node)
 }
 
 pub fn do_append_pi(
@@ -93,9 +84,9 @@ pub fn do_append_pi(
     ensures { Performed (append-pi (word_of parent) target.now content.now) d mem.old (made (word_of result.id)) result.document mem.new }
 {
     let stored = store_two(d, mem, target, content);
-    let document = stored.document;
-    let target = stored.first;
-    let data = stored.second;
-    let node = new_node(NodeData::ProcessingInstruction { target, data });
-    append_node(document, mem, Arena::Children, parent, node)
+    let node = new_node(NodeData::ProcessingInstruction {
+        target: stored.first,
+        data: stored.second,
+    });
+    append_node(stored.document, mem, Arena::Children, parent, node)
 }

@@ -1,6 +1,5 @@
 // Attributes and namespace nodes: a new one at the end of its element's list, or another text in one that was found. The calls, behind their plans.
 ghost use Rattle.std.specs.Prelude.{◌≡◌, ◌<◌};
-ghost use Rattle.std.proofs.Math.Option.{none, some};
 ghost use Rattle.records.specs.Fields.{CharsFit};
 ghost use Rattle.records.specs.Handles.{word_of};
 ghost use Rattle.texts.specs.Pool.{stored, stored_slot};
@@ -18,15 +17,15 @@ use crate::interning::intern_name;
 use crate::replace::do_replace_text;
 use crate::storing::{store_text, store_two};
 use layout::{Arena, Document};
-use records::{Chars, NodeData, NodeId};
-use words::NameId;
+use records::{NodeData, NodeId};
+use words::{NameId, TextSlot};
 
 // The record after an attribute's name and value were stored, the name's number, and what the node's field holds.
 #[derive(Clone, Copy)]
 struct StoredAttribute {
     document: Document,
     name: NameId,
-    value: Chars,
+    value: Option<TextSlot>,
 }
 
 fn store_attribute(
@@ -42,15 +41,11 @@ fn store_attribute(
     ensures value_value { (slot_of result.value ≡ stored_slot (decode d mem.old).pool value.now) × CharsFit result.value }
 {
     let interned = intern_name(d, mem, namespace, local);
-    let between = interned.document;
-    let name = interned.name;
-    let stored = store_text(between, mem, value);
-    let document = stored.document;
-    let value = stored.field;
+    let stored = store_text(interned.document, mem, value);
     StoredAttribute {
-        document,
-        name,
-        value,
+        document: stored.document,
+        name: interned.name,
+        value: stored.field,
     }
 }
 
@@ -63,16 +58,15 @@ pub fn append_attribute(
     value: &[u8],
 ) -> Document
     requires admitted { Admitted (set-attribute (word_of element) namespace.now local.now value.now) d mem.old }
-    requires local_value { find_attribute (decode d mem.old) (word_of element) (name namespace.now local.now) ≡ none }
+    requires local_value { find_attribute (decode d mem.old) (word_of element) (name namespace.now local.now) ≡ None }
     ensures { Performed (set-attribute (word_of element) namespace.now local.now value.now) d mem.old done result mem.new }
 {
     let stored = store_attribute(d, mem, namespace, local, value);
-    let document = stored.document;
-    let name = stored.name;
-    let value = stored.value;
-    let node = new_node(NodeData::Attr { name, value });
-    let made = append_node(document, mem, Arena::Attributes, element, node);
-    made.document
+    let node = new_node(NodeData::Attr {
+        name: stored.name,
+        value: stored.value,
+    });
+    append_node(stored.document, mem, Arena::Attributes, element, node).document
 }
 
 pub fn replace_attribute(
@@ -85,7 +79,7 @@ pub fn replace_attribute(
     value: &[u8],
 ) -> Document
     requires admitted { Admitted (set-attribute (word_of element) namespace.now local.now value.now) d mem.old }
-    requires local_value { find_attribute (decode d mem.old) (word_of element) (name namespace.now local.now) ≡ some (word_of found) }
+    requires local_value { find_attribute (decode d mem.old) (word_of element) (name namespace.now local.now) ≡ Some (word_of found) }
     ensures { Performed (set-attribute (word_of element) namespace.now local.now value.now) d mem.old done result mem.new }
 {
     do_replace_text(d, mem, found, value)
@@ -99,15 +93,15 @@ pub fn append_namespace(
     uri: &[u8],
 ) -> NewNode
     requires admitted { Admitted (declare-namespace (word_of element) prefix.now uri.now) d mem.old }
-    requires prefix_value { find_namespace (decode d mem.old) (word_of element) prefix.now ≡ none }
+    requires prefix_value { find_namespace (decode d mem.old) (word_of element) prefix.now ≡ None }
     ensures { Performed (declare-namespace (word_of element) prefix.now uri.now) d mem.old (made (word_of result.id)) result.document mem.new }
 {
     let stored = store_two(d, mem, prefix, uri);
-    let document = stored.document;
-    let prefix = stored.first;
-    let uri = stored.second;
-    let node = new_node(NodeData::Namespace { prefix, uri });
-    append_node(document, mem, Arena::Namespaces, element, node)
+    let node = new_node(NodeData::Namespace {
+        prefix: stored.first,
+        uri: stored.second,
+    });
+    append_node(stored.document, mem, Arena::Namespaces, element, node)
 }
 
 pub fn replace_namespace(
@@ -119,7 +113,7 @@ pub fn replace_namespace(
     uri: &[u8],
 ) -> Document
     requires admitted { Admitted (declare-namespace (word_of element) prefix.now uri.now) d mem.old }
-    requires prefix_value { find_namespace (decode d mem.old) (word_of element) prefix.now ≡ some (word_of found) }
+    requires prefix_value { find_namespace (decode d mem.old) (word_of element) prefix.now ≡ Some (word_of found) }
     ensures { Performed (declare-namespace (word_of element) prefix.now uri.now) d mem.old (made (word_of found)) result mem.new }
 {
     do_replace_text(d, mem, found, uri)

@@ -9,7 +9,7 @@ ghost use Rattle.edits.specs.Slot.{CanBear, new_node, Newborn};
 use layout::Document;
 use layout::record::with_slots;
 use memory::parts::take_slot;
-use records::{Node, NodeData, NodeId, Parent, Range};
+use records::{Node, NodeData, NodeId, Range};
 use words::NodeSlot;
 
 // The record after a node was made, and the node's handle.
@@ -23,11 +23,10 @@ pub struct NewNode {
 pub fn new_node(data: NodeData) -> Node
     ensures { result ≡ new_node «data» }
 {
-    let children = Range { start: 0, len: 0 };
     Node {
         data,
-        parent: Parent::None,
-        children,
+        parent: None,
+        children: Range { start: 0, len: 0 },
     }
 }
 
@@ -39,8 +38,7 @@ pub fn born(d: Document, mem: &mut [u64], node: Node) -> NewNode
 {
     let taken = take_slot(d, mem);
     let id = taken.id;
-    let slot = NodeSlot(id.index);
-    memory::write::put_node(d, mem, slot, node);
+    memory::write::put_node(d, mem, NodeSlot(id.index), node);
     let document = with_slots(d, taken.made, taken.free);
     NewNode { document, id }
 }

@@ -1,9 +1,7 @@
 // A node is taken off its parent, and put under another.
 ghost use Rattle.std.specs.Prelude.{◌≡◌};
-ghost use Rattle.std.proofs.Math.Option.{some, none};
 ghost use Rattle.records.specs.Handles.{word_of};
 ghost use Rattle.records.specs.Fields.{ParentFits};
-ghost use Rattle.records.specs.declared.Loaded.TheVariants.{Found};
 ghost use Rattle.model.specs.Kinds as kinds;
 ghost use Rattle.model.specs.Edits.{set_parent, unlink, unhook, attach};
 ghost use Rattle.layout.specs.Layout.{which_of};
@@ -12,16 +10,17 @@ ghost use Rattle.memory.specs.Step.{Step};
 ghost use Rattle.edits.specs.Asked.{NodeHeld, Hooked, Attachable};
 
 use layout::{Arena, Document};
-use records::{Loaded, Node, NodeData, NodeId, Parent};
+use memory::read::load;
+use records::handle::word_of;
+use records::{Node, NodeData, NodeId};
 use words::NodeSlot;
 
 // The node has another parent, or none; the order is not current any more.
-pub fn set_parent(d: Document, mem: &mut [u64], id: NodeId, parent: Parent) -> Document
+pub fn set_parent(d: Document, mem: &mut [u64], id: NodeId, parent: Option<NodeId>) -> Document
     requires { NodeHeld d mem.old (word_of id) × ParentFits parent }
     ensures { Step d mem.old result mem.new (set_parent (decode d mem.old) (word_of id) (handle_of parent)) }
 {
-    let slot = NodeSlot(id.index);
-    memory::write::put_parent(d, mem, slot, parent);
+    memory::write::put_parent(d, mem, NodeSlot(id.index), parent);
     layout::record::outdated(d)
 }
 
@@ -30,29 +29,22 @@ fn arena_of(data: NodeData) -> Arena
     ensures { which_of result ≡ kinds.which_of (kind_of «data») }
 {
     match data {
-        NodeData::Root => Arena::Children,
-        NodeData::Element { .. } => Arena::Children,
         NodeData::Attr { .. } => Arena::Attributes,
-        NodeData::Text(_) => Arena::Children,
-        NodeData::Comment(_) => Arena::Children,
         NodeData::Namespace { .. } => Arena::Namespaces,
-        NodeData::ProcessingInstruction { .. } => Arena::Children,
+        _ => Arena::Children,
     }
 }
 
 // The node's entry is dropped from its parent's block, if it has a parent.
 fn unlink_node(d: Document, mem: &mut [u64], id: NodeId, node: Node) -> Document
-    requires { Hooked d mem.old (word_of id) × (loaded_at d.limits.nodes (slots_part d mem.old) id.index ≡ Found node) }
+    requires { Hooked d mem.old (word_of id) × (loaded_at d.limits.nodes (slots_part d mem.old) id.index ≡ Some node) }
     ensures { Step d mem.old result mem.new (unlink (decode d mem.old) (word_of id)) }
 {
-    let data = node.data;
-    let arena = arena_of(data);
-    let parent = node.parent;
-    match parent {
-        Parent::None => d,
-        Parent::Of(above) => {
-            let owner = NodeSlot(above.index);
-            memory::block::drop_entry(d, mem, arena, owner, records::handle::word_of(id))
+    match node.parent {
+        None => d,
+        Some(above) => {
+            let arena = arena_of(node.data);
+            memory::block::drop_entry(d, mem, arena, NodeSlot(above.index), word_of(id))
         }
     }
 }
@@ -61,11 +53,9 @@ pub fn unlink(d: Document, mem: &mut [u64], id: NodeId) -> Document
     requires { Hooked d mem.old (word_of id) }
     ensures { Step d mem.old result mem.new (unlink (decode d mem.old) (word_of id)) }
 {
-    let slot = NodeSlot(id.index);
-    let loaded = memory::read::load(d, &mem[..], slot);
-    match loaded {
-        Loaded::Found(node) => unlink_node(d, mem, id, node),
-        Loaded::NoNode => d,
+    match load(d, &mem[..], NodeSlot(id.index)) {
+        Some(node) => unlink_node(d, mem, id, node),
+        None => d,
     }
 }
 
@@ -75,7 +65,7 @@ pub fn unhook(d: Document, mem: &mut [u64], id: NodeId) -> Document
     ensures { Step d mem.old result mem.new (unhook (decode d mem.old) (word_of id)) }
 {
     let unlinked = unlink(d, mem, id);
-    set_parent(unlinked, mem, id, Parent::None)
+    set_parent(unlinked, mem, id, None)
 }
 
 // A node without a parent goes under one, at an index of its block.
@@ -90,8 +80,6 @@ pub fn attach(
     requires { Attachable d mem.old (which_of arena) (word_of parent) (word_of id) }
     ensures { Step d mem.old result mem.new (attach (decode d mem.old) (which_of arena) (word_of parent) at (word_of id)) }
 {
-    let adopted = set_parent(d, mem, id, Parent::Of(parent));
-    let owner = NodeSlot(parent.index);
-    let word = records::handle::word_of(id);
-    memory::block::insert_entry(adopted, mem, arena, owner, at, word)
+    let adopted = set_parent(d, mem, id, Some(parent));
+    memory::block::insert_entry(adopted, mem, arena, NodeSlot(parent.index), at, word_of(id))
 }

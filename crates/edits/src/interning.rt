@@ -25,8 +25,9 @@ pub fn intern_name(d: Document, mem: &mut [u64], namespace: &[u8], local: &[u8])
     ensures name_value { (result.name.0 ≡ number_of (decode d mem.old).names (name namespace.now local.now)) × (result.name.0 < 4294967296) }
 {
     let interned = write_name(d, mem, namespace, local);
-    let name = interned.number;
-    let counts = interned.counts;
-    let document = with_names(d, counts);
-    InternedName { document, name }
+    let document = with_names(d, interned.counts);
+    InternedName {
+        document,
+        name: interned.number,
+    }
 }

@@ -27,10 +27,8 @@ pub fn attach_last(
     requires { Attachable d mem.old (which_of arena) (word_of parent) (word_of id) }
     ensures { Step d mem.old result mem.new (attach (decode d mem.old) (which_of arena) (word_of parent) (length (list_at (decode d mem.old) (which_of arena) (word_of parent))) (word_of id)) }
 {
-    let owner = NodeSlot(parent.index);
-    let block = memory::block::block_of(d, &mem[..], owner, arena);
-    let len = block.len;
-    attach(d, mem, arena, parent, len as usize, id)
+    let block = memory::block::block_of(d, &mem[..], NodeSlot(parent.index), arena);
+    attach(d, mem, arena, parent, block.len as usize, id)
 }
 
 // A node goes to an index of a parent's children.

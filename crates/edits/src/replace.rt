@@ -1,9 +1,7 @@
 // A text in place of a node's own: in its slot, or, where the text was stored empty, in one that it gets. The order stays current.
 ghost use Rattle.std.specs.Prelude.{◌≡◌};
-ghost use Rattle.std.proofs.Math.Option.{none, some};
 ghost use Rattle.records.specs.Fields.{CharsFit};
 ghost use Rattle.records.specs.Handles.{word_of};
-ghost use Rattle.records.specs.declared.Loaded.TheVariants.{Found};
 ghost use Rattle.texts.specs.Pool.{replaced};
 ghost use Rattle.model.specs.Kinds.{with_text};
 ghost use Rattle.model.specs.Doc.{kind_at};
@@ -21,82 +19,70 @@ use crate::storing::store_text;
 use layout::Document;
 use layout::record::with_texts;
 use memory::parts::write_over;
+use memory::read::load;
 use memory::stored::text_field;
-use records::{Chars, Loaded, Node, NodeData, NodeId};
+use records::{Node, NodeData, NodeId};
 use words::{NodeSlot, TextSlot};
 
-fn with_field(data: NodeData, field: Chars) -> NodeData
+fn with_field(data: NodeData, field: Option<TextSlot>) -> NodeData
     ensures { result ≡ with_field «data» field }
 {
     match data {
-        NodeData::Root => data,
-        NodeData::Element { .. } => data,
         NodeData::Attr { name, .. } => NodeData::Attr { name, value: field },
         NodeData::Text(_) => NodeData::Text(field),
-        NodeData::Comment(_) => data,
         NodeData::Namespace { prefix, .. } => NodeData::Namespace { prefix, uri: field },
-        NodeData::ProcessingInstruction { .. } => data,
+        _ => data,
     }
 }
 
 // The node with another text.
-fn filled(node: Node, field: Chars) -> Node
+fn filled(node: Node, field: Option<TextSlot>) -> Node
     ensures { result ≡ filled node field }
 {
-    let old = node.data;
-    let parent = node.parent;
-    let children = node.children;
-    let data = with_field(old, field);
     Node {
-        data,
-        parent,
-        children,
+        data: with_field(node.data, field),
+        ..node
     }
 }
 
 // The node's record gets another field.
-fn put_field(d: Document, mem: &mut [u64], id: NodeId, field: Chars)
+fn put_field(d: Document, mem: &mut [u64], id: NodeId, field: Option<TextSlot>)
     requires { NodeHeld d mem.old (word_of id) × CharsFit field }
     ensures { Step d mem.old d mem.new (set_kind (decode d mem.old) (word_of id) (with_text (kind_at (decode d mem.old) (word_of id)) (slot_of field)) (decode d mem.old).pool) }
 {
     let slot = NodeSlot(id.index);
-    let loaded = memory::read::load(d, &mem[..], slot);
-    match loaded {
-        Loaded::Found(node) => memory::write::put_node(d, mem, slot, filled(node, field)),
-        Loaded::NoNode => {}
+    match load(d, &mem[..], slot) {
+        Some(node) => memory::write::put_node(d, mem, slot, filled(node, field)),
+        None => {}
     }
 }
 
 // A text stored empty gets a slot, unless the new one is empty too.
 fn fill_field(d: Document, mem: &mut [u64], id: NodeId, text: &[u8]) -> Document
     requires { NodeHeld d mem.old (word_of id) × Storable d mem.old text.now }
-    ensures { Step d mem.old result mem.new (with_replaced (decode d mem.old) (word_of id) none text.now) }
+    ensures { Step d mem.old result mem.new (with_replaced (decode d mem.old) (word_of id) None text.now) }
 {
     let stored = store_text(d, mem, text);
-    let document = stored.document;
-    let field = stored.field;
-    put_field(document, mem, id, field);
-    document
+    put_field(stored.document, mem, id, stored.field);
+    stored.document
 }
 
 // A text that has a slot keeps it.
 fn replace_slot(d: Document, mem: &mut [u64], slot: TextSlot, text: &[u8]) -> Document
     requires { Overwritable d mem.old slot.0 text.now }
-    ensures { Step d mem.old result mem.new (set_pool (decode d mem.old) (replaced (decode d mem.old).pool (some slot.0) text.now)) }
+    ensures { Step d mem.old result mem.new (set_pool (decode d mem.old) (replaced (decode d mem.old).pool (Some slot.0) text.now)) }
 {
     let counts = write_over(d, mem, slot, text);
     with_texts(d, counts)
 }
 
 fn replace_in(d: Document, mem: &mut [u64], id: NodeId, node: Node, text: &[u8]) -> Document
-    requires { Replaceable d mem.old (word_of id) text.now × (loaded_at d.limits.nodes (slots_part d mem.old) id.index ≡ Found node) }
+    requires { Replaceable d mem.old (word_of id) text.now × (loaded_at d.limits.nodes (slots_part d mem.old) id.index ≡ Some node) }
     ensures { Step d mem.old result mem.new (with_replaced (decode d mem.old) (word_of id) (replaceable_at (decode d mem.old) (word_of id)) text.now) }
 {
-    let data = node.data;
-    let field = text_field(data);
-    match field {
-        Chars::Empty => fill_field(d, mem, id, text),
-        Chars::Expanded(slot) => replace_slot(d, mem, slot, text),
+    match text_field(node.data) {
+        None => fill_field(d, mem, id, text),
+        Some(slot) => replace_slot(d, mem, slot, text),
     }
 }
 
@@ -105,11 +91,9 @@ pub fn do_replace_text(d: Document, mem: &mut [u64], id: NodeId, text: &[u8]) ->
     requires { Replaceable d mem.old (word_of id) text.now }
     ensures { Step d mem.old result mem.new (with_replaced (decode d mem.old) (word_of id) (replaceable_at (decode d mem.old) (word_of id)) text.now) }
 {
-    let slot = NodeSlot(id.index);
-    let loaded = memory::read::load(d, &mem[..], slot);
-    match loaded {
-        Loaded::Found(node) => replace_in(d, mem, id, node, text),
-        Loaded::NoNode => d,
+    match load(d, &mem[..], NodeSlot(id.index)) {
+        Some(node) => replace_in(d, mem, id, node, text),
+        None => d,
     }
 }
 

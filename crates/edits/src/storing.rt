@@ -11,31 +11,30 @@ ghost use Rattle.edits.specs.Stores.{Storable, TwoStorable};
 use layout::Document;
 use layout::record::with_texts;
 use memory::parts::write_text;
-use records::Chars;
-use texts::storing::TextField;
+use words::TextSlot;
 
 // The record after a text was stored, and what the node's field holds.
 #[derive(Clone, Copy)]
 pub struct StoredText {
     pub document: Document,
-    pub field: Chars,
+    pub field: Option<TextSlot>,
 }
 
 // The same of two texts of one call.
 #[derive(Clone, Copy)]
 pub struct StoredTexts {
     pub document: Document,
-    pub first: Chars,
-    pub second: Chars,
+    pub first: Option<TextSlot>,
+    pub second: Option<TextSlot>,
 }
 
 // The pool's field as a node's.
-fn chars_of(field: TextField) -> Chars
+fn chars_of(field: Option<TextSlot>) -> Option<TextSlot>
     ensures { (slot_of result ≡ field_of field) × CharsFit result }
 {
     match field {
-        TextField::Nothing => Chars::Empty,
-        TextField::Slot(slot) => Chars::Expanded(slot),
+        None => None,
+        Some(slot) => Some(slot),
     }
 }
 
@@ -46,10 +45,8 @@ pub fn store_text(d: Document, mem: &mut [u64], text: &[u8]) -> StoredText
     ensures field_value { (slot_of result.field ≡ stored_slot (decode d mem.old).pool text.now) × CharsFit result.field }
 {
     let stored = write_text(d, mem, text);
-    let taken = stored.field;
-    let field = chars_of(taken);
-    let counts = stored.counts;
-    let document = with_texts(d, counts);
+    let field = chars_of(stored.field);
+    let document = with_texts(d, stored.counts);
     StoredText { document, field }
 }
 
@@ -61,14 +58,10 @@ pub fn store_two(d: Document, mem: &mut [u64], first: &[u8], second: &[u8]) -> S
     ensures second_value { (slot_of result.second ≡ stored_slot (stored (decode d mem.old).pool first.now) second.now) × CharsFit result.second }
 {
     let one = store_text(d, mem, first);
-    let between = one.document;
-    let first = one.field;
-    let two = store_text(between, mem, second);
-    let document = two.document;
-    let second = two.field;
+    let two = store_text(one.document, mem, second);
     StoredTexts {
-        document,
-        first,
-        second,
+        document: two.document,
+        first: one.field,
+        second: two.field,
     }
 }

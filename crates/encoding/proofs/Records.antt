@@ -1,36 +1,25 @@
 -- A record and its words.
 -- Assumes nothing.
+use Rattle.std.specs.Prelude.{Some, None, Option}
 use mathlib.Core.Path.{◌≡◌, refl, sym, ap, ◌∙◌}
 use mathlib.Core.Bool.{Bool, true, false, not, cond}
-use mathlib.Core.List.{List, [], ◌∷◌}
-use Prim.Native.Nat.{ℕ, ◌<◌, ◌≤◌}
+use mathlib.Core.List.{List}
+use Prim.Native.Nat.{ℕ, ◌≤◌}
 use native.Mathlib.Omega.{arith}
-use lib.ListN.{length, set}
+use lib.ListN.{length}
 use lib.Seq.{sets, sets-eq}
 use lib.Dec.{eqb, leb}
-use borrow.Author.Tests.{le-leb, lt-leb, leb-true}
+use borrow.Author.Tests.{leb-true}
 use Rattle.words.proofs.Tests.{and_left, and_right}
 use Rattle.words.specs.Parts.{put}
 use Rattle.layout.specs.declared.Document.{Document}
 use Rattle.layout.specs.Record.{record_with}
-use Rattle.encoding.specs.declared.record.Lent.{Lent}
-use Rattle.encoding.specs.declared.record.Lent.TheVariants.{Record, Short}
-use Rattle.encoding.specs.Records.{limits_in, counts_in, document_of, truth_word, limit_words, count_words, words_of, is_lent, lent_record}
+use Rattle.encoding.specs.Records.{limits_in, counts_in, document_of, truth_word, words_of, is_lent, lent_record}
 
 -- stores at the front, one behind the other
 pub stored : (l vs : List ℕ) → length vs ≤ length l → sets l 0 vs ≡ put 0 vs l
 unfolding put
 stored l vs h = sets-eq vs l 0 (omega arith)
-
-words-stored : (d : Document) (l : List ℕ) (t : ℕ) → t ≡ truth_word d.current → 19 ≤ length l
-    → sets l 0 (limit_words d.limits (count_words d.counts (t ∷ []))) ≡ put 0 (words_of d) l
-unfolding words_of
-words-stored d l t e h = rw e (stored l (limit_words d.limits (count_words d.counts (truth_word d.current ∷ []))) h)
-
--- the limits, the counts and the last word, one behind the other
-pub record-stored : (d : Document) (l m n : List ℕ) (t : ℕ) → m ≡ sets l 0 (limit_words d.limits []) → n ≡ sets m 8 (count_words d.counts []) → t ≡ truth_word d.current
-    → 19 ≤ length l → set n 18 t ≡ put 0 (words_of d) l
-record-stored d l m n t p q e h = (λ i. set ((q ∙ (λ j. sets (p j) 8 (count_words d.counts []))) i) 18 t) ∙ words-stored d l t e h
 
 pub truth-back : (t : Bool) → not (eqb (truth_word t) 0) ≡ t
 truth-back true = refl
@@ -40,19 +29,6 @@ truth-back false = refl
 pub written_back : (d : Document) (l : List ℕ) → document_of (put 0 (words_of d) l) ≡ d
 unfolding put document_of limits_in counts_in words_of
 written_back d l = ap (λ (t : Bool). record_with d d.counts t) (truth-back d.current)
-
--- the two tests of what is lent
-pub few_words : (w : List ℕ) (room asked : ℕ) → length w < 19 → Short ≡ lent_record w room asked
-unfolding lent_record is_lent
-few_words w room asked h = rw (lt-leb 19 (length w) h)
-
-pub few-asked : (w : List ℕ) (room asked : ℕ) → 19 ≤ length w → room < asked → Short ≡ lent_record w room asked
-unfolding lent_record is_lent
-few-asked w room asked h k = rw (le-leb 19 (length w) h, lt-leb asked room k)
-
-pub all-lent : (w : List ℕ) (room asked : ℕ) (d : Document) → d ≡ document_of w → 19 ≤ length w → asked ≤ room → Record d ≡ lent_record w room asked
-unfolding lent_record is_lent
-all-lent w room asked d e h k = rw (le-leb 19 (length w) h, le-leb asked room k, e)
 
 pub length-words_of : (d : Document) → length (words_of d) ≡ 19
 unfolding words_of
@@ -65,11 +41,11 @@ pub record Whole (w : List ℕ) (room asked : ℕ) (d : Document) : Type 0 where
   pub words : 19 ≤ length w
   pub enough : asked ≤ room
 
-pub not-lent : (w : List ℕ) (room asked : ℕ) (l : Lent) → l ≡ lent_record w room asked → l ≡ Short → is_lent w room asked ≡ false
+pub not-lent : (w : List ℕ) (room asked : ℕ) (l : Option Document) → l ≡ lent_record w room asked → l ≡ None → is_lent w room asked ≡ false
 unfolding lent_record
 not-lent w room asked l e s = go (is_lent w room asked) (sym s ∙ e)
   where
-    go : (t : Bool) → Short ≡ cond t (Record (document_of w)) Short → t ≡ false
+    go : (t : Bool) → None ≡ cond t (Some (document_of w)) None → t ≡ false
     go true q = let zero_one : ◌≡◌ {A = ℕ} 0 1 = cc in absurd (omega arith)
     go false q = refl
 
@@ -81,10 +57,10 @@ lent-room : (w : List ℕ) (room asked : ℕ) → is_lent w room asked ≡ true 
 unfolding is_lent
 lent-room w room asked e = leb-true asked room (and_right (leb 19 (length w)) (leb asked room) e)
 
-pub whole : (w : List ℕ) (room asked : ℕ) (l : Lent) (d : Document) → l ≡ lent_record w room asked → l ≡ Record d → Whole w room asked d
+pub whole : (w : List ℕ) (room asked : ℕ) (l : Option Document) (d : Document) → l ≡ lent_record w room asked → l ≡ Some d → Whole w room asked d
 unfolding lent_record
 whole w room asked l d e s = go (is_lent w room asked) refl (sym s ∙ e)
   where
-    go : (t : Bool) → is_lent w room asked ≡ t → Record d ≡ cond t (Record (document_of w)) Short → Whole w room asked d
+    go : (t : Bool) → is_lent w room asked ≡ t → Some d ≡ cond t (Some (document_of w)) None → Whole w room asked d
     go true q p = record { is = cc; lent = q; words = lent-words w room asked q; enough = lent-room w room asked q }
     go false q p = let zero_one : ◌≡◌ {A = ℕ} 0 1 = cc in absurd (omega arith)

@@ -1,117 +1,90 @@
 -- What an answer gives: words for a slice that is lent, or a refusal, after which the slice is as it was.
-use Rattle.std.specs.Prelude.{List, [], ◌∷◌, ℕ}
+use Rattle.std.specs.Prelude.{Bool, List, [], ◌∷◌, ℕ, Result, Ok, Err, Option, Some, None}
 use Rattle.words.specs.Parts.{put}
 use Rattle.records.specs.Handles.{word_of}
 use Rattle.model.specs.Refusals.{number_of}
 use Rattle.model.specs.declared.Refusal.{Refusal}
-use Rattle.tree.specs.declared.start.StartAnswer.{StartAnswer}
-use Rattle.tree.specs.declared.start.StartAnswer.TheVariants as startAnswer
-use Rattle.editing.specs.declared.answers.DoneAnswer.{DoneAnswer}
-use Rattle.editing.specs.declared.answers.DoneAnswer.TheVariants as doneAnswer
-use Rattle.editing.specs.declared.answers.MadeAnswer.{MadeAnswer}
-use Rattle.editing.specs.declared.answers.MadeAnswer.TheVariants as madeAnswer
-use Rattle.editing.specs.declared.answers.FoundAnswer.{FoundAnswer}
-use Rattle.editing.specs.declared.answers.FoundAnswer.TheVariants as foundAnswer
-use Rattle.editing.specs.declared.answers.OrderAnswer.{OrderAnswer}
-use Rattle.editing.specs.declared.answers.OrderAnswer.TheVariants as orderAnswer
-use Rattle.reading.specs.declared.answers.TruthAnswer.{TruthAnswer}
-use Rattle.reading.specs.declared.answers.TruthAnswer.TheVariants as truthAnswer
-use Rattle.reading.specs.declared.answers.NodeAnswer.{NodeAnswer}
-use Rattle.reading.specs.declared.answers.NodeAnswer.TheVariants as nodeAnswer
-use Rattle.reading.specs.declared.answers.RootAnswer.{RootAnswer}
-use Rattle.reading.specs.declared.answers.RootAnswer.TheVariants as rootAnswer
-use Rattle.reading.specs.declared.answers.ListAnswer.{ListAnswer}
-use Rattle.reading.specs.declared.answers.ListAnswer.TheVariants as listAnswer
-use Rattle.reading.specs.declared.answers.KeyAnswer.{KeyAnswer}
-use Rattle.reading.specs.declared.answers.KeyAnswer.TheVariants as keyAnswer
-use Rattle.reading.specs.declared.answers.KindAnswer.{KindAnswer}
-use Rattle.reading.specs.declared.answers.KindAnswer.TheVariants as kindAnswer
-use Rattle.reading.specs.declared.answers.NameAnswer.{NameAnswer}
-use Rattle.reading.specs.declared.answers.NameAnswer.TheVariants as nameAnswer
-use Rattle.reading.specs.declared.answers.NodesAnswer.{NodesAnswer}
-use Rattle.reading.specs.declared.answers.NodesAnswer.TheVariants as nodesAnswer
+use Rattle.edits.specs.declared.born.NewNode.{NewNode}
 use Rattle.records.specs.Records.{kind_word, name_word, chars_word, first_text, second_text, attributes_span, namespaces_span}
+use Rattle.words.specs.declared.NameId.{NameId}
 use Rattle.records.specs.declared.NodeData.{NodeData}
+use Rattle.records.specs.declared.NodeId.{NodeId}
+use Rattle.records.specs.declared.Range.{Range}
+use Rattle.layout.specs.declared.Document.{Document}
 use Rattle.encoding.specs.Records.{truth_word, words_of}
 
-pub data Given : Type 0 where
-  refusal : Refusal → Given
-  words : List ℕ → Given
+abbrev pub Given : Type 0
+Given = Result (List ℕ) Refusal
 
 -- the number that is returned: 0, or the refusal's
 abbrev pub status_of : Given → ℕ
-status_of (refusal why) = number_of why
-status_of (words vs) = 0
+status_of (Err why) = number_of why
+status_of (Ok vs) = 0
 
 -- the slice then: the words stand at its front
 abbrev pub given_to : List ℕ → Given → List ℕ
-given_to out (refusal why) = out
-given_to out (words vs) = put 0 vs out
+given_to out (Err why) = out
+given_to out (Ok vs) = put 0 vs out
 
 -- ---- the record that Start or an editing call leaves, and what it made or found
 
-abbrev pub start_record : StartAnswer → Given
-start_record (startAnswer.Started d) = words (words_of d)
-start_record (startAnswer.Refused why) = refusal why
+abbrev pub done_record : Result Document Refusal → Given
+done_record (Ok d) = Ok (words_of d)
+done_record (Err why) = Err why
 
-abbrev pub done_record : DoneAnswer → Given
-done_record (doneAnswer.Done d) = words (words_of d)
-done_record (doneAnswer.Refused why) = refusal why
+abbrev pub made_record : Result NewNode Refusal → Given
+made_record (Ok n) = Ok (words_of n.document)
+made_record (Err why) = Err why
 
-abbrev pub order_record : OrderAnswer → Given
-order_record (orderAnswer.Order d) = words (words_of d)
-order_record (orderAnswer.Refused why) = refusal why
+abbrev pub made_words : Result NewNode Refusal → Given
+made_words (Ok n) = Ok (word_of n.id ∷ [])
+made_words (Err why) = Err why
 
-abbrev pub made_record : MadeAnswer → Given
-made_record (madeAnswer.Made n) = words (words_of n.document)
-made_record (madeAnswer.Refused why) = refusal why
+abbrev pub found_record : Result (Document × Bool) Refusal → Given
+found_record (Ok (d, t)) = Ok (words_of d)
+found_record (Err why) = Err why
 
-abbrev pub made_words : MadeAnswer → Given
-made_words (madeAnswer.Made n) = words (word_of n.id ∷ [])
-made_words (madeAnswer.Refused why) = refusal why
-
-abbrev pub found_record : FoundAnswer → Given
-found_record (foundAnswer.Found d t) = words (words_of d)
-found_record (foundAnswer.Refused why) = refusal why
-
-abbrev pub found_words : FoundAnswer → Given
-found_words (foundAnswer.Found d t) = words (truth_word t ∷ [])
-found_words (foundAnswer.Refused why) = refusal why
+abbrev pub found_words : Result (Document × Bool) Refusal → Given
+found_words (Ok (d, t)) = Ok (truth_word t ∷ [])
+found_words (Err why) = Err why
 
 -- ---- what a reading call answers
 
-abbrev pub root_words : RootAnswer → Given
-root_words (rootAnswer.Root id) = words (word_of id ∷ [])
-root_words (rootAnswer.Refused why) = refusal why
+abbrev pub root_words : Result NodeId Refusal → Given
+root_words (Ok id) = Ok (word_of id ∷ [])
+root_words (Err why) = Err why
 
-abbrev pub truth_words : TruthAnswer → Given
-truth_words (truthAnswer.Is t) = words (truth_word t ∷ [])
-truth_words (truthAnswer.Refused why) = refusal why
+abbrev pub truth_words : Result Bool Refusal → Given
+truth_words (Ok t) = Ok (truth_word t ∷ [])
+truth_words (Err why) = Err why
 
 -- 1 with what there is, or 0 with 0
-abbrev pub node_words : NodeAnswer → Given
-node_words (nodeAnswer.Node id) = words (1 ∷ word_of id ∷ [])
-node_words nodeAnswer.Nothing = words (0 ∷ 0 ∷ [])
-node_words (nodeAnswer.Refused why) = refusal why
+abbrev pub behind_one : Option ℕ → List ℕ
+behind_one (Some n) = 1 ∷ n ∷ []
+behind_one None = 0 ∷ 0 ∷ []
 
-abbrev pub key_words : KeyAnswer → Given
-key_words (keyAnswer.At n) = words (1 ∷ n ∷ [])
-key_words keyAnswer.Nothing = words (0 ∷ 0 ∷ [])
-key_words (keyAnswer.Refused why) = refusal why
+abbrev pub node_words : Result (Option NodeId) Refusal → Given
+node_words (Ok (Some id)) = Ok (behind_one (Some (word_of id)))
+node_words (Ok None) = Ok (behind_one None)
+node_words (Err why) = Err why
 
-abbrev pub list_words : ListAnswer → Given
-list_words (listAnswer.Block b) = words (b.start ∷ b.len ∷ [])
-list_words (listAnswer.Refused why) = refusal why
+abbrev pub key_words : Result (Option ℕ) Refusal → Given
+key_words (Ok found) = Ok (behind_one found)
+key_words (Err why) = Err why
 
-abbrev pub name_words : NameAnswer → Given
-name_words (nameAnswer.Name n) = words (1 ∷ [])
-name_words nameAnswer.Nothing = words (0 ∷ [])
-name_words (nameAnswer.Refused why) = refusal why
+abbrev pub list_words : Result Range Refusal → Given
+list_words (Ok b) = Ok (b.start ∷ b.len ∷ [])
+list_words (Err why) = Err why
+
+abbrev pub name_words : Result (Option NameId) Refusal → Given
+name_words (Ok (Some n)) = Ok (1 ∷ [])
+name_words (Ok None) = Ok (0 ∷ [])
+name_words (Err why) = Err why
 
 -- how many handles were written to the list that is lent besides
-abbrev pub count_words : NodesAnswer → Given
-count_words (nodesAnswer.Count n) = words (n ∷ [])
-count_words (nodesAnswer.Refused why) = refusal why
+abbrev pub count_words : Result ℕ Refusal → Given
+count_words (Ok n) = Ok (n ∷ [])
+count_words (Err why) = Err why
 
 -- the words of a node record that tell what the node is
 unfoldable pub data_words : NodeData → List ℕ
@@ -123,7 +96,7 @@ data_words v =
 abbrev pub no_data : List ℕ
 no_data = 7 ∷ 0 ∷ 0 ∷ 0 ∷ 0 ∷ 0 ∷ 0 ∷ 0 ∷ []
 
-abbrev pub kind_words : KindAnswer → Given
-kind_words (kindAnswer.Kind v) = words (data_words v)
-kind_words kindAnswer.Nothing = words no_data
-kind_words (kindAnswer.Refused why) = refusal why
+abbrev pub kind_words : Result (Option NodeData) Refusal → Given
+kind_words (Ok (Some v)) = Ok (data_words v)
+kind_words (Ok None) = Ok no_data
+kind_words (Err why) = Err why

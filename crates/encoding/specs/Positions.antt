@@ -1,11 +1,8 @@
 -- The position of a walk as words (02, a): seven, and any seven words are one.
-use Rattle.std.specs.Prelude.{List, [], ◌∷◌, ℕ, get_or}
+use Rattle.std.specs.Prelude.{List, [], ◌∷◌, ℕ, get_or, Result, Ok, Err, Some, None, Option}
+use Rattle.model.specs.declared.Refusal.{Refusal}
 use Rattle.steps.specs.declared.position.Position.{Position}
-use Rattle.descendants.specs.declared.walk.WalkAnswer.{WalkAnswer}
-use Rattle.descendants.specs.declared.walk.WalkAnswer.TheVariants as walkAnswer
-use Rattle.descendants.specs.declared.walk.NextAnswer.{NextAnswer}
-use Rattle.descendants.specs.declared.walk.NextAnswer.TheVariants as nextAnswer
-use Rattle.encoding.specs.Given.{Given, refusal, words}
+use Rattle.encoding.specs.Given.{Given}
 
 -- the node where the walk began, the node listed last, the four hints, and how many nodes may be listed yet
 abbrev pub position_words : Position → List ℕ
@@ -21,18 +18,18 @@ position_of w = record {
 
 -- ---- what an answer gives
 
-abbrev pub start_words : WalkAnswer → Given
-start_words (walkAnswer.From p) = words (position_words p)
-start_words (walkAnswer.Refused why) = refusal why
+abbrev pub start_words : Result Position Refusal → Given
+start_words (Ok p) = Ok (position_words p)
+start_words (Err why) = Err why
 
 -- 1 and the node listed, or 0 and 0 at the end
-abbrev pub next_words : NextAnswer → Given
-next_words (nextAnswer.At p) = words (1 ∷ p.node ∷ [])
-next_words nextAnswer.End = words (0 ∷ 0 ∷ [])
-next_words (nextAnswer.Refused why) = refusal why
+abbrev pub next_words : Result (Option Position) Refusal → Given
+next_words (Ok (Some p)) = Ok (1 ∷ p.node ∷ [])
+next_words (Ok None) = Ok (0 ∷ 0 ∷ [])
+next_words (Err why) = Err why
 
 -- the position at the node listed; at the end it stays
-abbrev pub next_position : NextAnswer → Given
-next_position (nextAnswer.At p) = words (position_words p)
-next_position nextAnswer.End = words []
-next_position (nextAnswer.Refused why) = refusal why
+abbrev pub next_position : Result (Option Position) Refusal → Given
+next_position (Ok (Some p)) = Ok (position_words p)
+next_position (Ok None) = Ok []
+next_position (Err why) = Err why

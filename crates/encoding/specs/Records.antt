@@ -1,10 +1,8 @@
 -- The record of a document as words: its 8 limits, its 10 counts, and whether its order is current.
-use Rattle.std.specs.Prelude.{Bool, ◌&&◌, not, cond, List, [], ◌∷◌, ℕ, length, get_or, eqb, leb}
+use Rattle.std.specs.Prelude.{Bool, ◌&&◌, not, cond, List, [], ◌∷◌, ℕ, length, get_or, eqb, leb, Some, None, Option}
 use Rattle.layout.specs.declared.Limits.{Limits}
 use Rattle.layout.specs.declared.Counts.{Counts}
 use Rattle.layout.specs.declared.Document.{Document}
-use Rattle.encoding.specs.declared.record.Lent.{Lent}
-use Rattle.encoding.specs.declared.record.Lent.TheVariants.{Record, Short}
 
 unfoldable pub limits_in : List ℕ → Limits
 limits_in w = record {
@@ -52,5 +50,5 @@ words_of d = limit_words d.limits (count_words d.counts (truth_word d.current �
 unfoldable pub is_lent : List ℕ → ℕ → ℕ → Bool
 is_lent w room asked = leb 19 (length w) && leb asked room
 
-unfoldable pub lent_record : List ℕ → ℕ → ℕ → Lent
-lent_record w room asked = cond (is_lent w room asked) (Record (document_of w)) Short
+unfoldable pub lent_record : List ℕ → ℕ → ℕ → Option Document
+lent_record w room asked = cond (is_lent w room asked) (Some (document_of w)) None

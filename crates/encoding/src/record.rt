@@ -1,18 +1,12 @@
 // A document's record as words: its limits, its counts, and whether its order is current.
-ghost use Rattle.std.specs.Prelude.{◌≡◌, ◌≤◌, [], length};
-ghost use Rattle.std.proofs.lemmas.List.Edits.{sets};
+ghost use Rattle.std.specs.Prelude.{◌≡◌, ◌≤◌, length};
 ghost use Rattle.words.specs.Parts.{put};
-ghost use Rattle.encoding.specs.Records.{limits_in, counts_in, document_of, truth_word, limit_words, count_words, words_of, lent_record};
+ghost use Rattle.encoding.specs.Records.{limits_in, counts_in, document_of, truth_word, words_of, lent_record};
 
+use crate::numbers::put;
 use layout::{Counts, Document, Limits};
 
-// A record that is lent, or that too few words are.
-#[derive(Clone, Copy)]
-pub enum Lent {
-    Record(Document),
-    Short,
-}
-
+#[tactic(auto, unfolding(crate::specs::Records::limits_in))]
 fn limits_in(words: &[u64]) -> Limits
     requires { 19 ≤ length words.now }
     ensures { result ≡ limits_in words.now }
@@ -29,6 +23,7 @@ fn limits_in(words: &[u64]) -> Limits
     }
 }
 
+#[tactic(auto, unfolding(crate::specs::Records::counts_in))]
 fn counts_in(words: &[u64]) -> Counts
     requires { 19 ≤ length words.now }
     ensures { result ≡ counts_in words.now }
@@ -47,6 +42,7 @@ fn counts_in(words: &[u64]) -> Counts
     }
 }
 
+#[tactic(auto, unfolding(crate::specs::Records::document_of))]
 fn document_of(words: &[u64]) -> Document
     requires { 19 ≤ length words.now }
     ensures { result ≡ document_of words.now }
@@ -59,16 +55,14 @@ fn document_of(words: &[u64]) -> Document
 }
 
 // The record, where its words are all lent, and room has as many words as are asked for.
-pub fn lent_record(words: &[u64], room: usize, asked: usize) -> Lent
+#[tactic(auto, unfolding(crate::specs::Records::lent_record, crate::specs::Records::is_lent))]
+pub fn lent_record(words: &[u64], room: usize, asked: usize) -> Option<Document>
     ensures { result ≡ lent_record words.now room asked }
 {
-    if words.len() < 19 {
-        return Lent::Short;
+    if words.len() < 19 || room < asked {
+        return None;
     }
-    if room < asked {
-        return Lent::Short;
-    }
-    Lent::Record(document_of(words))
+    Some(document_of(words))
 }
 
 // 1 for true, 0 for false.
@@ -78,34 +72,33 @@ pub fn truth_word(t: bool) -> u64
     if t { 1 } else { 0 }
 }
 
-fn put_limits(words: &mut [u64], l: Limits)
-    requires { 19 ≤ length words.old }
-    ensures { words.new ≡ sets words.old 0 (limit_words l []) }
+#[tactic(auto, unfolding(crate::specs::Records::words_of))]
+pub fn words_of(d: Document) -> [u64; 19]
+    ensures { result ≡ words_of d }
 {
-    words[0] = l.nodes as u64;
-    words[1] = l.children as u64;
-    words[2] = l.attributes as u64;
-    words[3] = l.namespaces as u64;
-    words[4] = l.texts as u64;
-    words[5] = l.textbytes as u64;
-    words[6] = l.names as u64;
-    words[7] = l.namebytes as u64;
-}
-
-fn put_counts(words: &mut [u64], c: Counts)
-    requires { 19 ≤ length words.old }
-    ensures { words.new ≡ sets words.old 8 (count_words c []) }
-{
-    words[8] = c.slots as u64;
-    words[9] = c.free as u64;
-    words[10] = c.children as u64;
-    words[11] = c.attributes as u64;
-    words[12] = c.namespaces as u64;
-    words[13] = c.texts as u64;
-    words[14] = c.freetexts as u64;
-    words[15] = c.textbytes as u64;
-    words[16] = c.names as u64;
-    words[17] = c.namebytes as u64;
+    let l = d.limits;
+    let c = d.counts;
+    [
+        l.nodes as u64,
+        l.children as u64,
+        l.attributes as u64,
+        l.namespaces as u64,
+        l.texts as u64,
+        l.textbytes as u64,
+        l.names as u64,
+        l.namebytes as u64,
+        c.slots as u64,
+        c.free as u64,
+        c.children as u64,
+        c.attributes as u64,
+        c.namespaces as u64,
+        c.texts as u64,
+        c.freetexts as u64,
+        c.textbytes as u64,
+        c.names as u64,
+        c.namebytes as u64,
+        u64::from(d.current),
+    ]
 }
 
 // Writes the record over the first words.
@@ -113,8 +106,5 @@ pub fn put_record(words: &mut [u64], d: Document)
     requires { 19 ≤ length words.old }
     ensures { words.new ≡ put 0 (words_of d) words.old }
 {
-    let current = truth_word(d.current);
-    put_limits(words, d.limits);
-    put_counts(words, d.counts);
-    words[18] = current;
+    put(words, words_of(d));
 }

@@ -1,8 +1,8 @@
 -- What the functions that test and count the entries cite, over plain values.
 -- Assumes nothing.
+use Rattle.std.specs.Prelude.{Option, None, Some}
 use mathlib.Core.Path.{◌≡◌, refl, sym, ap, ◌∙◌, subst}
-use mathlib.Core.Bool.{Bool, true, false, not, cond, false≢true}
-use mathlib.Core.Option.{Option, none, some}
+use mathlib.Core.Bool.{Bool, true, false, cond, false≢true}
 use mathlib.Core.List.{List, [], ◌∷◌, ◌++◌, map}
 use Prim.Native.Nat.{ℕ, ◌+◌, ◌*◌, ◌%◌, ◌≤◌, ◌<◌, max}
 use native.Mathlib.Decide.{ℕ_discrete}
@@ -12,7 +12,6 @@ use lib.Dec.{eqb}
 use borrow.Author.Tests.{ne_eqb}
 use Rattle.words.specs.Parts.{part}
 use Rattle.words.specs.Lists.{all, all_below}
-use Rattle.words.proofs.Parts.{length_part, get_or-part}
 use Rattle.blocks.specs.Arena.{block, cap_of}
 use Rattle.records.specs.Handles.{handle_index}
 use Rattle.model.specs.Kinds.{Which, children, attributes, namespaces}
@@ -32,7 +31,7 @@ use Rattle.entries.specs.Nodes.{no_texts, decode_nodes, words_hold, record_word,
 use Rattle.entries.specs.Marks.{raised, Counted, Pass, Adds, gathered}
 use Rattle.entries.specs.Entering.{list_number, enters, entries_in, entries_enter, slots_entered, lists_enter, slots_named, words_enter, marked_once}
 use Rattle.entries.proofs.Lists.{gathered-map, all_below-all, all_same}
-use Rattle.entries.proofs.Marks.{counted_none, adds_none, adds_then, adds_one, passed, refused, Passing, passing-next, passing-not, passing-all}
+use Rattle.entries.proofs.Marks.{counted_none, adds_none, adds_then, adds_one, Passing}
 use Rattle.entries.proofs.Entering.{entries-no, entries-yes}
 use Rattle.entries.proofs.Words.{live-below, record-word, block-word, block-at-below}
 use Rattle.entries.proofs.EntryWords.{entry-below, words-enter}
@@ -57,41 +56,14 @@ module _ (nodes made : ℕ) (mem : List ℕ) (list owner entry : ℕ) (t : Bool)
 
 -- ---- the entries of a block, one by one
 
-module _ (made : ℕ) (q : ℕ → Bool) (ids : List ℕ) (start len : ℕ) (before : List ℕ) where
+module _ (made : ℕ) (q : ℕ → Bool) (entries before : List ℕ) where
   abbrev pub Blocking : List ℕ → ℕ → Type 0
   Blocking marks k =
-      Passing made len (λ i. q (get_or (part start len ids) i 0)) (λ i. handle_index (get_or (part start len ids) i 0) ∷ []) before marks k
+      Passing made (length entries) (λ i. q (get_or entries i 0)) (λ i. handle_index (get_or entries i 0) ∷ []) before marks k
 
-  entry_of : (k : ℕ) (m n : List ℕ) (r : Bool) → k < len → Pass made (q (get_or ids (start + k) 0)) (handle_index (get_or ids (start + k) 0) ∷ []) m n r
-      → Pass made (q (get_or (part start len ids) k 0)) (handle_index (get_or (part start len ids) k 0) ∷ []) m n r
-  entry_of k m n r h p = rw (get_or-part ids start len k 0 h) p
-
-  block-of : (m : List ℕ) (r : Bool) → start + len ≤ length ids
-      → Pass made (all_below (λ i. q (get_or (part start len ids) i 0)) len) (gathered (λ i. handle_index (get_or (part start len ids) i 0) ∷ []) len) before m r
-      → Pass made (all q (part start len ids)) (map handle_index (part start len ids)) before m r
-  block-of m r h p =
-      let n = length_part ids start len h in
-      let a : all_below (λ i. q (get_or (part start len ids) i 0)) len ≡ all q (part start len ids) =
-      ap (all_below (λ i. q (get_or (part start len ids) i 0))) (sym n) ∙ all_below-all q (part start len ids) 0 in
-      let g : gathered (λ i. handle_index (get_or (part start len ids) i 0) ∷ []) len ≡ map handle_index (part start len ids) =
-      ap (gathered (λ i. handle_index (get_or (part start len ids) i 0) ∷ [])) (sym n) ∙ gathered-map handle_index (part start len ids) 0 in
-      rw (← a, ← g) p
-
-  module _ (marks : List ℕ) (k : ℕ) (s : Blocking marks k) (after : List ℕ) (r : Bool) where
-    pub block-next : k < len → length after ≡ length marks → Pass made (q (get_or ids (start + k) 0)) (handle_index (get_or ids (start + k) 0) ∷ []) marks after r → not r ≡ false → Blocking after (k + 1)
-    block-next h l p e =
-        passing-next made len (λ i. q (get_or (part start len ids) i 0)) (λ i. handle_index (get_or (part start len ids) i 0) ∷ []) before marks after k s r h l (entry_of k marks after r h p) e
-
-    pub block-not : start + len ≤ length ids → k < len → Pass made (q (get_or ids (start + k) 0)) (handle_index (get_or ids (start + k) 0) ∷ []) marks after r → not r ≡ true
-        → Pass made (all q (part start len ids)) (map handle_index (part start len ids)) before after false
-    block-not f h p e =
-        block-of after false f
-        (passing-not made len (λ i. q (get_or (part start len ids) i 0)) (λ i. handle_index (get_or (part start len ids) i 0) ∷ []) before marks after k s r h (entry_of k marks after r h p) e)
-
-  pub block-all : (marks : List ℕ) (k : ℕ) → Blocking marks k → start + len ≤ length ids → len ≤ k
-      → Pass made (all q (part start len ids)) (map handle_index (part start len ids)) before marks true
-  block-all marks k s f h =
-      block-of marks true f (passing-all made len (λ i. q (get_or (part start len ids) i 0)) (λ i. handle_index (get_or (part start len ids) i 0) ∷ []) before marks k s h)
+  pub block-of : (m : List ℕ) (r : Bool) → Pass made (all_below (λ i. q (get_or entries i 0)) (length entries)) (gathered (λ i. handle_index (get_or entries i 0) ∷ []) (length entries)) before m r
+      → Pass made (all q entries) (map handle_index entries) before m r
+  block-of m r p = rw (← all_below-all q entries 0, ← gathered-map handle_index entries 0) p
 
 -- ---- the list of a slot
 
@@ -161,23 +133,23 @@ module _ (d : Document) (mem : List ℕ) (s : ℕ) (ok : memory_ok d (length mem
 -- ---- the three lists of a slot, one after another
 
 module _ (D : Doc) (made i : ℕ) (before a : List ℕ) (t : Bool) where
-  pub first-refused : Pass made (entries_enter D children i) (slots_entered D children i) before a t → not t ≡ true → Pass made (lists_enter D i) (slots_named D i) before a false
+  pub first-refused : Pass made (entries_enter D children i) (slots_entered D children i) before a t → t ≡ false → Pass made (lists_enter D i) (slots_named D i) before a false
   unfolding lists_enter all_which
-  first-refused p e = record { answer = rw (← p.answer, refused t e); counts = λ z. absurd (false≢true z) }
+  first-refused p e = record { answer = rw (← p.answer, e); counts = λ z. absurd (false≢true z) }
 
-  module _ (p : Pass made (entries_enter D children i) (slots_entered D children i) before a t) (y : not t ≡ false) (b : List ℕ) (u : Bool)
+  module _ (p : Pass made (entries_enter D children i) (slots_entered D children i) before a t) (y : t ≡ true) (b : List ℕ) (u : Bool)
       (q : Pass made (entries_enter D attributes i) (slots_entered D attributes i) a b u) where
-    pub second-refused : not u ≡ true → Pass made (lists_enter D i) (slots_named D i) before b false
+    pub second-refused : u ≡ false → Pass made (lists_enter D i) (slots_named D i) before b false
     unfolding lists_enter all_which
-    second-refused e = record { answer = rw (← p.answer, passed t y, ← q.answer, refused u e); counts = λ z. absurd (false≢true z) }
+    second-refused e = record { answer = rw (← p.answer, y, ← q.answer, e); counts = λ z. absurd (false≢true z) }
 
-    pub third : not u ≡ false → (c : List ℕ) (v : Bool) → Pass made (entries_enter D namespaces i) (slots_entered D namespaces i) b c v
+    pub third : u ≡ true → (c : List ℕ) (v : Bool) → Pass made (entries_enter D namespaces i) (slots_entered D namespaces i) b c v
         → Pass made (lists_enter D i) (slots_named D i) before c v
     unfolding lists_enter all_which slots_named
     third z c v r = record {
-      answer = rw (← p.answer, passed t y, ← q.answer, passed u z) r.answer;
-      counts = λ g. adds_then made (slots_entered D children i) (slots_entered D attributes i ++ slots_entered D namespaces i) before a c (p.counts (passed t y))
-          (adds_then made (slots_entered D attributes i) (slots_entered D namespaces i) a b c (q.counts (passed u z)) (r.counts g));
+      answer = rw (← p.answer, y, ← q.answer, z) r.answer;
+      counts = λ g. adds_then made (slots_entered D children i) (slots_entered D attributes i ++ slots_entered D namespaces i) before a c (p.counts y)
+          (adds_then made (slots_entered D attributes i) (slots_entered D namespaces i) a b c (q.counts z) (r.counts g));
     }
 
 -- a free slot has no lists
@@ -193,16 +165,16 @@ module _ (D : Doc) (s mark : ℕ) where
     where
       go : (l : Bool) (o : Option ℕ) → true ≡ implies l (all_option (λ _. eqb mark 1) o)
       go false o = refl
-      go true none = refl
-      go true (some p) = sym e
+      go true None = refl
+      go true (Some p) = sym e
 
   module _ (t : Bool) (f : t ≡ live_slot D s) where
     pub entered-live : t ≡ true → eqb mark 1 ≡ false → (r : Bool) → r ≡ is_none (parent_in D s) → r ≡ implies (live_slot D s) (all_option (λ _. eqb mark 1) (parent_in D s))
     entered-live y n r e = e ∙ rw (sym f ∙ y) (go (parent_in D s))
       where
         go : (o : Option ℕ) → is_none o ≡ all_option (λ _. eqb mark 1) o
-        go none = refl
-        go (some p) = sym n
+        go None = refl
+        go (Some p) = sym n
 
     pub entered-free : t ≡ false → true ≡ implies (live_slot D s) (all_option (λ _. eqb mark 1) (parent_in D s))
     entered-free n = sym (rw (sym f ∙ n))

@@ -1,9 +1,10 @@
 -- Rule 4 from the marks: where each entry may stand where it does, an entry of a node stands in its parent's list of its kind alone, so the
 -- mark of its slot tells how often it stands there.
 -- Assumes nothing.
+use Rattle.std.proofs.lemmas.Option.{same_Some}
+use Rattle.std.specs.Prelude.{Option, None, Some}
 use mathlib.Core.Path.{◌≡◌, refl, sym, ap, ◌∙◌}
 use mathlib.Core.Bool.{Bool, true, false, ◌&&◌, cond, and-false, and-true, false≢true, true≢false}
-use mathlib.Core.Option.{Option, none, some, some-injective}
 use mathlib.Core.List.{List, [], ◌++◌, Memᴰ}
 use Prim.Native.Nat.{ℕ, ◌+◌, ◌≤◌, ◌<◌, min}
 use native.Mathlib.Decide.{ℕ_discrete}
@@ -40,15 +41,15 @@ same-list namespaces children e = absurd (false≢true e)
 same-list namespaces attributes e = absurd (false≢true e)
 same-list namespaces namespaces e = refl
 
-parent-told : (o : Option ℕ) (owner : ℕ) → any_option (eqb owner) o ≡ true → o ≡ some owner
-parent-told none owner e = absurd (false≢true e)
-parent-told (some p) owner e = ap some (sym (eqb-true owner p e))
+parent-told : (o : Option ℕ) (owner : ℕ) → any_option (eqb owner) o ≡ true → o ≡ Some owner
+parent-told None owner e = absurd (false≢true e)
+parent-told (Some p) owner e = ap Some (sym (eqb-true owner p e))
 
 module _ (D : Doc) where
   pub record Told (w : Which) (owner h : ℕ) : Type 0 where
     pub live : live_slot D (handle_index h) ≡ true
     pub generation : generation_at D (handle_index h) ≡ handle_generation h
-    pub parent : parent_at D h ≡ some owner
+    pub parent : parent_at D h ≡ Some owner
     pub list : which_of (kind_at D h) ≡ w
 
   pub told : (w : Which) (owner h : ℕ) → enters D w owner h ≡ true → Told w owner h
@@ -72,7 +73,7 @@ module _ (D : Doc) where
     handle-generation i b = generation-handle_word i (generation_at D i) (omega arith)
 
     -- an entry of slot x is the handle of x, in a list of its parent p, and of its kind
-    module _ (x p : ℕ) (lx : live_slot D x ≡ true) (ep : parent_in D x ≡ some p) where
+    module _ (x p : ℕ) (lx : live_slot D x ≡ true) (ep : parent_in D x ≡ Some p) where
       is-handle : (w : Which) (owner h : ℕ) → enters D w owner h ≡ true → x ≡ handle_index h → h ≡ handle_at D x
       is-handle w owner h t e =
           let b = live-below D x lx in
@@ -80,7 +81,7 @@ module _ (D : Doc) where
           (sym (told w owner h t).generation ∙ ap (generation_at D) (sym e) ∙ sym (handle-generation x b))
 
       is-owner : (w : Which) (owner h : ℕ) → enters D w owner h ≡ true → x ≡ handle_index h → p ≡ owner
-      is-owner w owner h t e = some-injective p owner (sym ep ∙ ap (parent_in D) e ∙ (told w owner h t).parent)
+      is-owner w owner h t e = same_Some p owner (sym ep ∙ ap (parent_in D) e ∙ (told w owner h t).parent)
 
       is-list : (w : Which) (owner h : ℕ) → enters D w owner h ≡ true → x ≡ handle_index h → which_of (kind_in D x) ≡ w
       is-list w owner h t e = ap (λ (i : ℕ). which_of (kind_in D i)) e ∙ (told w owner h t).list
@@ -159,7 +160,7 @@ module _ (D : Doc) where
           ∙ ap (λ (k : ℕ). count_of (eqb x) (gathered (slots_entered D children) (length D.gens)) + k)
           (gathered-joined (eqb x) (slots_entered D attributes) (slots_entered D namespaces) (length D.gens))
 
-      pub entered-count : (x p : ℕ) → live_slot D x ≡ true → parent_in D x ≡ some p
+      pub entered-count : (x p : ℕ) → live_slot D x ≡ true → parent_in D x ≡ Some p
           → count_of (eqb x) (gathered (slots_named D) (length D.gens)) ≡ count_of (eqb (handle_at D x)) (list_at D (which_of (kind_in D x)) p)
       entered-count x p lx ep = total x ∙ go (which_of (kind_in D x)) refl
         where
@@ -200,8 +201,8 @@ module _ (D : Doc) where
           go : (l : Bool) → live_slot D x ≡ l → (o : Option ℕ) → parent_in D x ≡ o
               → implies l (all_option (λ _. eqb (get_or marks x 0) 1) o) ≡ implies l (all_option (entered_once D x) o)
           go false el o eo = refl
-          go true el none eo = refl
-          go true el (some p) eo =
+          go true el None eo = refl
+          go true el (Some p) eo =
               ap (λ (k : ℕ). eqb k 1) (c.mark x b) ∙ once-told (count_of (eqb x) (gathered (slots_named D) (length D.gens))) ∙ ap (λ (k : ℕ). eqb k 1) (entered-count x p el eo)
 
 -- ---- the test of rule 4

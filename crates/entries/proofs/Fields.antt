@@ -1,8 +1,8 @@
 -- What the functions that test and count the fields of the nodes cite, over plain values.
 -- Assumes nothing.
+use Rattle.std.specs.Prelude.{Option, None, Some}
 use mathlib.Core.Path.{◌≡◌, refl, sym, ap, ◌∙◌, subst}
-use mathlib.Core.Bool.{Bool, true, false, not, ◌&&◌, false≢true}
-use mathlib.Core.Option.{Option, none, some}
+use mathlib.Core.Bool.{Bool, true, false, ◌&&◌, false≢true}
 use mathlib.Core.List.{List, [], ◌∷◌, ◌++◌}
 use Prim.Native.Nat.{ℕ, ◌≤◌, ◌<◌}
 use native.Mathlib.Omega.{arith}
@@ -10,8 +10,6 @@ use lib.ListN.{length, get_or, set}
 use lib.Dec.{ltb}
 use borrow.Author.Tests.{lt-ltb, le-ltb}
 use Rattle.words.specs.declared.TextSlot.{TextSlot}
-use Rattle.records.specs.declared.Chars.{Chars}
-use Rattle.records.specs.declared.Chars.TheVariants.{Empty, Expanded}
 use Rattle.words.specs.Lists.{all}
 use Rattle.model.specs.Kinds.{Kind, root, element, attribute, text, comment, namespace, instruction, texts_of}
 use Rattle.model.specs.Doc.{Doc, live_slot, kind_in}
@@ -20,7 +18,7 @@ use Rattle.memory.specs.Decode.{slot_of}
 use Rattle.entries.specs.Nodes.{kind_number, name_number, first_slot, second_slot}
 use Rattle.entries.specs.Marks.{raised, Pass, Adds}
 use Rattle.entries.specs.Fields.{slots_inside, names_inside, fields_hold}
-use Rattle.entries.proofs.Marks.{adds_none, adds_then, adds_one, passed, refused}
+use Rattle.entries.proofs.Marks.{adds_none, adds_then, adds_one}
 
 -- the marks have kept their number
 pub pass-at : (n k : ℕ) (t : Bool) (l a b : List ℕ) (r : Bool) → n ≡ k → Pass n t l a b r → Pass k t l a b r
@@ -65,12 +63,12 @@ module _ (names kind : ℕ) where
 
 -- ---- a text field
 
-module _ (c : Chars) (texts : ℕ) (marks : List ℕ) where
-  pub text-none : c ≡ Empty → Pass (length marks) (slots_inside texts (slots_held (slot_of c ∷ []))) (slots_held (slot_of c ∷ [])) marks marks true
+module _ (c : Option TextSlot) (texts : ℕ) (marks : List ℕ) where
+  pub text-none : c ≡ None → Pass (length marks) (slots_inside texts (slots_held (slot_of c ∷ []))) (slots_held (slot_of c ∷ [])) marks marks true
   unfolding slots_inside
   text-none e = rw e (record { answer = refl; counts = λ _. adds_none (length marks) marks })
 
-  module _ (t : TextSlot) (e : c ≡ Expanded t) where
+  module _ (t : TextSlot) (e : c ≡ Some t) where
     pub text-outside : texts ≤ t.0 → Pass (length marks) (slots_inside texts (slots_held (slot_of c ∷ []))) (slots_held (slot_of c ∷ [])) marks marks false
     unfolding slots_inside
     text-outside h =
@@ -90,13 +88,13 @@ module _ (c : Chars) (texts : ℕ) (marks : List ℕ) where
 
 -- ---- two text fields
 
-module _ (a b : Chars) (texts : ℕ) where
+module _ (a b : Option TextSlot) (texts : ℕ) where
   two-held : slots_held (slot_of a ∷ slot_of b ∷ []) ≡ slots_held (slot_of a ∷ []) ++ slots_held (slot_of b ∷ [])
   two-held = go (slot_of a)
     where
       go : (o : Option ℕ) → slots_held (o ∷ slot_of b ∷ []) ≡ slots_held (o ∷ []) ++ slots_held (slot_of b ∷ [])
-      go none = refl
-      go (some s) = refl
+      go None = refl
+      go (Some s) = refl
 
   two-inside : slots_inside texts (slots_held (slot_of a ∷ slot_of b ∷ [])) ≡ (slots_inside texts (slots_held (slot_of a ∷ [])) && slots_inside texts (slots_held (slot_of b ∷ [])))
   unfolding slots_inside
@@ -107,21 +105,21 @@ module _ (a b : Chars) (texts : ℕ) where
       one false u = refl
 
       go : (o : Option ℕ) → all (λ s. ltb s texts) (slots_held (o ∷ slot_of b ∷ [])) ≡ (all (λ s. ltb s texts) (slots_held (o ∷ [])) && all (λ s. ltb s texts) (slots_held (slot_of b ∷ [])))
-      go none = refl
-      go (some s) = one (ltb s texts) (all (λ s. ltb s texts) (slots_held (slot_of b ∷ [])))
+      go None = refl
+      go (Some s) = one (ltb s texts) (all (λ s. ltb s texts) (slots_held (slot_of b ∷ [])))
 
   module _ (marks m : List ℕ) (r : Bool) (p : Pass (length marks) (slots_inside texts (slots_held (slot_of a ∷ []))) (slots_held (slot_of a ∷ [])) marks m r) where
-    pub first-outside : not r ≡ true → Pass (length marks) (slots_inside texts (slots_held (slot_of a ∷ slot_of b ∷ []))) (slots_held (slot_of a ∷ slot_of b ∷ [])) marks m false
-    first-outside e = record { answer = sym (two-inside ∙ rw (← p.answer, refused r e)); counts = λ z. absurd (false≢true z) }
+    pub first-outside : r ≡ false → Pass (length marks) (slots_inside texts (slots_held (slot_of a ∷ slot_of b ∷ []))) (slots_held (slot_of a ∷ slot_of b ∷ [])) marks m false
+    first-outside e = record { answer = sym (two-inside ∙ rw (← p.answer, e)); counts = λ z. absurd (false≢true z) }
 
-    pub both-counted : not r ≡ false → length m ≡ length marks → (n : List ℕ) (s : Bool)
+    pub both-counted : r ≡ true → length m ≡ length marks → (n : List ℕ) (s : Bool)
         → Pass (length m) (slots_inside texts (slots_held (slot_of b ∷ []))) (slots_held (slot_of b ∷ [])) m n s
         → Pass (length marks) (slots_inside texts (slots_held (slot_of a ∷ slot_of b ∷ []))) (slots_held (slot_of a ∷ slot_of b ∷ [])) marks n s
     both-counted e k n s q = record {
-      answer = q.answer ∙ sym (two-inside ∙ rw (← p.answer, passed r e));
+      answer = q.answer ∙ sym (two-inside ∙ rw (← p.answer, e));
       counts = λ z.
           subst (λ (l : List ℕ). Adds (length marks) l marks n) (sym two-held)
-          (adds_then (length marks) (slots_held (slot_of a ∷ [])) (slots_held (slot_of b ∷ [])) marks m n (p.counts (passed r e))
+          (adds_then (length marks) (slots_held (slot_of a ∷ [])) (slots_held (slot_of b ∷ [])) marks m n (p.counts e)
           (subst (λ (i : ℕ). Adds i (slots_held (slot_of b ∷ [])) m n) k (q.counts z)));
     }
 
@@ -130,9 +128,9 @@ module _ (a b : Chars) (texts : ℕ) where
 fields-of : (k : Kind ℕ (Option ℕ)) → slots_held (texts_of k) ≡ slots_held (first_slot k ∷ second_slot k ∷ [])
 fields-of k = go k
   where
-    one : (o : Option ℕ) → slots_held (o ∷ []) ≡ slots_held (o ∷ none ∷ [])
-    one none = refl
-    one (some s) = refl
+    one : (o : Option ℕ) → slots_held (o ∷ []) ≡ slots_held (o ∷ None ∷ [])
+    one None = refl
+    one (Some s) = refl
 
     go : (k : Kind ℕ (Option ℕ)) → slots_held (texts_of k) ≡ slots_held (first_slot k ∷ second_slot k ∷ [])
     go root = refl
@@ -144,13 +142,13 @@ fields-of k = go k
     go (instruction t d) = refl
 
 module _ (D : Doc) (s texts names : ℕ) (marks : List ℕ) (live : live_slot D s ≡ true) (u : Bool) (e : u ≡ names_inside names (kind_in D s)) where
-  pub node-refused : not u ≡ true → Pass (length marks) (fields_hold texts names D s) (held_in D s) marks marks false
+  pub node-refused : u ≡ false → Pass (length marks) (fields_hold texts names D s) (held_in D s) marks marks false
   unfolding fields_hold
-  node-refused q = rw live (record { answer = rw (← e, refused u q); counts = λ z. absurd (false≢true z) })
+  node-refused q = rw live (record { answer = rw (← e, q); counts = λ z. absurd (false≢true z) })
 
-  pub node-counted : not u ≡ false → (first second : Chars) → slot_of first ≡ first_slot (kind_in D s) → slot_of second ≡ second_slot (kind_in D s) → (after : List ℕ) (r : Bool)
+  pub node-counted : u ≡ true → (first second : Option TextSlot) → slot_of first ≡ first_slot (kind_in D s) → slot_of second ≡ second_slot (kind_in D s) → (after : List ℕ) (r : Bool)
       → Pass (length marks) (slots_inside texts (slots_held (slot_of first ∷ slot_of second ∷ []))) (slots_held (slot_of first ∷ slot_of second ∷ [])) marks after r
       → Pass (length marks) (fields_hold texts names D s) (held_in D s) marks after r
   unfolding fields_hold
   node-counted q first second ef es after r p =
-      rw (live, fields-of (kind_in D s), ← e, passed u q, ← ef, ← es) p
+      rw (live, fields-of (kind_in D s), ← e, q, ← ef, ← es) p

@@ -8,6 +8,7 @@ use native.Mathlib.Numerals.{add-one}
 use native.Mathlib.Decide.{ℕ_discrete}
 use native.Mathlib.Omega.{arith}
 use lib.ListN.{length, get_or}
+use Rattle.std.specs.List.{list_all}
 use Rattle.words.specs.Lists.{count_of, all, all_below, tabulate}
 use Rattle.words.proofs.Lists.{count_of-append}
 use Rattle.words.proofs.Joined.{joined-append}
@@ -54,6 +55,11 @@ all_below-front p (suc n) =
 pub all_below-all : {A : Type 0} (q : A → Bool) (l : List A) (d : A) → all_below (λ k. q (get_or l k d)) (length l) ≡ all q l
 all_below-all q [] d = refl
 all_below-all q (x ∷ l) d = all_below-front (λ k. q (get_or (x ∷ l) k d)) (length l) ∙ ap (λ (t : Bool). q x && t) (all_below-all q l d)
+
+-- the library's word for it
+pub all-listed : {A : Type 0} (q : A → Bool) (l : List A) → list_all q l ≡ all q l
+all-listed q [] = refl
+all-listed q (x ∷ l) = ap (λ (t : Bool). q x && t) (all-listed q l)
 
 -- ---- counts
 

@@ -1,7 +1,7 @@
 -- Counting into marks, and the one law of every loop that does it: slot by slot, or entry by entry.
 -- Assumes nothing.
 use mathlib.Core.Path.{◌≡◌, refl, sym, ap, ◌∙◌, subst}
-use mathlib.Core.Bool.{Bool, true, false, not, cond, false≢true}
+use mathlib.Core.Bool.{Bool, true, false, cond, false≢true}
 use mathlib.Core.List.{List, [], ◌∷◌, ◌++◌, append_assoc, append-nil}
 use Prim.Native.Nat.{ℕ, ◌+◌, ◌≤◌, ◌<◌, min}
 use native.Mathlib.Decide.{ℕ_discrete}
@@ -49,16 +49,6 @@ module _ (made : ℕ) where
           ∙ c.mark y b
           ∙ ap (min 2) (omega (arith, count_of-snoc (eqb y) k x))
 
--- ---- an answer that the code negates
-
-pub passed : (t : Bool) → not t ≡ false → t ≡ true
-passed true e = refl
-passed false e = absurd (false≢true (sym e))
-
-pub refused : (t : Bool) → not t ≡ true → t ≡ false
-refused true e = absurd (false≢true e)
-refused false e = refl
-
 -- ---- a loop whose turn i is a pass with the test p i over the list f i
 
 pub record Passing (made n : ℕ) (p : ℕ → Bool) (f : ℕ → List ℕ) (before marks : List ℕ) (i : ℕ) : Type 0 where
@@ -72,19 +62,19 @@ module _ (made n : ℕ) (p : ℕ → Bool) (f : ℕ → List ℕ) (before : List
   passing-none = record { at = omega arith; same = refl; sofar = refl; counts = adds_none made before }
 
   module _ (marks after : List ℕ) (i : ℕ) (s : Passing made n p f before marks i) (r : Bool) where
-    pub passing-next : i < n → length after ≡ length marks → Pass made (p i) (f i) marks after r → not r ≡ false → Passing made n p f before after (i + 1)
+    pub passing-next : i < n → length after ≡ length marks → Pass made (p i) (f i) marks after r → r ≡ true → Passing made n p f before after (i + 1)
     passing-next b l q e = record {
       at = omega arith;
       same = l ∙ s.same;
-      sofar = all_below-next p i s.sofar (sym q.answer ∙ passed r e);
+      sofar = all_below-next p i s.sofar (sym q.answer ∙ e);
       counts =
           subst (λ (k : List ℕ). Adds made k before after) (sym (gathered_next f i))
-          (adds_then made (gathered f i) (f i) before marks after s.counts (q.counts (passed r e)));
+          (adds_then made (gathered f i) (f i) before marks after s.counts (q.counts e));
     }
 
-    pub passing-not : i < n → Pass made (p i) (f i) marks after r → not r ≡ true → Pass made (all_below p n) (gathered f n) before after false
+    pub passing-not : i < n → Pass made (p i) (f i) marks after r → r ≡ false → Pass made (all_below p n) (gathered f n) before after false
     passing-not b q e = record {
-      answer = sym (all_below-not p n i b (sym q.answer ∙ refused r e));
+      answer = sym (all_below-not p n i b (sym q.answer ∙ e));
       counts = λ z. absurd (false≢true z);
     }
 
@@ -99,11 +89,11 @@ module _ (made n : ℕ) (p : ℕ → Bool) (f : ℕ → List ℕ) (before : List
 -- ---- a loop whose turn i is a test
 
 module _ (n : ℕ) (p : ℕ → Bool) where
-  pub tested-next : (i : ℕ) (r : Bool) → all_below p i ≡ true → r ≡ p i → not r ≡ false → all_below p (i + 1) ≡ true
-  tested-next i r h q e = all_below-next p i h (sym q ∙ passed r e)
+  pub tested-next : (i : ℕ) (r : Bool) → all_below p i ≡ true → r ≡ p i → r ≡ true → all_below p (i + 1) ≡ true
+  tested-next i r h q e = all_below-next p i h (sym q ∙ e)
 
-  pub tested-not : (i : ℕ) (r : Bool) → i < n → r ≡ p i → not r ≡ true → false ≡ all_below p n
-  tested-not i r b q e = sym (all_below-not p n i b (sym q ∙ refused r e))
+  pub tested-not : (i : ℕ) (r : Bool) → i < n → r ≡ p i → r ≡ false → false ≡ all_below p n
+  tested-not i r b q e = sym (all_below-not p n i b (sym q ∙ e))
 
   pub tested-all : (i : ℕ) → i ≤ n → n ≤ i → all_below p i ≡ true → true ≡ all_below p n
   tested-all i a b h =

@@ -1,19 +1,21 @@
 -- Rule 8: where the counts are within the limits, what the layers of texts and names say of themselves and the marks decide it.
 -- Assumes nothing.
 use mathlib.Core.Path.{◌≡◌, refl, sym, ap, ◌∙◌}
-use mathlib.Core.Bool.{Bool, true, false, not, ◌&&◌, cond, and-false}
+use mathlib.Core.Bool.{Bool, true, false, ◌&&◌, cond, and-false}
 use mathlib.Core.List.{List, [], reverse}
 use Prim.Native.Nat.{ℕ, ◌+◌, ◌≤◌, ◌<◌, min}
 use native.Mathlib.Decide.{ℕ_discrete, dec_lt}
 use native.Mathlib.Omega.{arith}
-use lib.ListN.{length, get_or, get_or-eq_default}
+use lib.ListN.{length, get_or, take, get_or-eq_default}
+use lib.Seq.{length-take-le}
+use Rattle.std.proofs.lemmas.List.{get_or-take}
 use lib.Dec.{eqb, ltb}
 use borrow.Author.Tests.{eq-eqb, ne_eqb, ltb-true, le-ltb, le-leb}
 use Rattle.words.specs.Parts.{part}
 use Rattle.words.specs.Lists.{count_of, all, all_below}
 use Rattle.words.specs.Ends.{start_of, length_of}
 use Rattle.words.proofs.Parts.{length_part}
-use Rattle.words.proofs.Lists.{length-tabulate, get_or-tabulate, all_below-next, all_below-not, all_below-same}
+use Rattle.words.proofs.Lists.{length-tabulate, get_or-tabulate, all_below-same}
 use Rattle.words.proofs.Tests.{and_left, and_right, eqb_same}
 use Rattle.texts.specs.Words as pool
 use Rattle.texts.specs.Words.{text_shown, free_ok, pool_ok, Markable, marked}
@@ -36,22 +38,22 @@ use Rattle.memory.proofs.Lent.{texts-length}
 use Rattle.entries.specs.Nodes.{no_texts, decode_nodes}
 use Rattle.entries.specs.Marks.{Counted, gathered}
 use Rattle.entries.specs.Fields.{slots_inside, names_inside, fields_hold, marked_one, slots_once, pool_holds}
-use Rattle.entries.proofs.Lists.{and_comm, all_below-and, all_same, all-gathered, all-reverse}
-use Rattle.entries.proofs.Marks.{passed, refused}
+use Rattle.std.specs.List.{list_all}
+use Rattle.entries.proofs.Lists.{all-listed, all_below-all, and_comm, all_below-and, all_same, all-gathered, all-reverse}
 
 pub length-texts : (d : Document) (mem : List ℕ) → memory_ok d (length mem) ≡ true → length (texts_part d mem) ≡ d.limits.texts + d.limits.texts + d.limits.textbytes
 length-texts d mem ok = texts-length d mem (text_limits d) (texts_part d mem) refl refl ok
 
 -- ---- the marks
 
-module _ (marks : List ℕ) where
-  pub one-next : (s : ℕ) → all_below (marked_one marks) s ≡ true → get_or marks s 0 ≡ 1 → all_below (marked_one marks) (s + 1) ≡ true
-  unfolding marked_one
-  one-next s h e = all_below-next (λ i. eqb (get_or marks i 0) 1) s h (eq-eqb (get_or marks s 0) 1 e)
-
-  pub one-not : (n s : ℕ) → s < n → (get_or marks s 0 ≡ 1 → ⊥) → false ≡ all_below (marked_one marks) n
-  unfolding marked_one
-  one-not n s b e = sym (all_below-not (λ i. eqb (get_or marks i 0) 1) n s b (ne_eqb (get_or marks s 0) 1 e))
+pub marked-all : (marks : List ℕ) (texts : ℕ) → texts ≤ length marks → list_all (λ m. eqb m 1) (take texts marks) ≡ all_below (marked_one marks) texts
+unfolding marked_one
+marked-all marks texts h =
+    let size : length (take texts marks) ≡ texts = length-take-le texts marks h in
+    all-listed (λ m. eqb m 1) (take texts marks)
+    ∙ sym (all_below-all (λ m. eqb m 1) (take texts marks) 0)
+    ∙ ap (all_below (λ s. eqb (get_or (take texts marks) s 0) 1)) size
+    ∙ all_below-same (λ s. eqb (get_or (take texts marks) s 0) 1) (λ s. eqb (get_or marks s 0) 1) texts (λ s b. ap (λ (m : ℕ). eqb m 1) (get_or-take texts marks s 0 b))
 
 both_told : (h f : ℕ) → eqb (min 2 h + f) 1 ≡ eqb (h + f) 1
 both_told h f = go (ℕ_discrete (h + f) 1)
@@ -234,31 +236,31 @@ module _ (d : Document) (mem : List ℕ) (ok : memory_ok d (length mem) ≡ true
   unfolding texts_hold
   free-differs e n = fourth-false (lengths_add d mem) _ _ _ _ (free-is e ∙ n)
 
-  texts-refused : (t : Bool) → t ≡ pool_ok (text_limits d) (text_counts d) (texts_part d mem) → not t ≡ true → false ≡ texts_hold (decode d mem)
+  texts-refused : (t : Bool) → t ≡ pool_ok (text_limits d) (text_counts d) (texts_part d mem) → t ≡ false → false ≡ texts_hold (decode d mem)
   texts-refused t e h = go (texts_add d mem) refl
     where
       no-pool : (texts_add d mem && all (free_ok d.counts.texts (texts_part d mem)) stack) ≡ false
-      no-pool = sym pool-is ∙ sym e ∙ refused t h
+      no-pool = sym pool-is ∙ sym e ∙ h
 
       go : (a : Bool) → texts_add d mem ≡ a → false ≡ texts_hold (decode d mem)
       go true q = free-differs q (sym (ap (λ (a : Bool). a && all (free_ok d.counts.texts (texts_part d mem)) stack) q) ∙ no-pool)
       go false q = ends-differ q
 
-  names-refused : (t : Bool) → t ≡ table_ok (name_limits d) (name_counts d) (names_part d mem) → not t ≡ true → false ≡ texts_hold (decode d mem)
+  names-refused : (t : Bool) → t ≡ table_ok (name_limits d) (name_counts d) (names_part d mem) → t ≡ false → false ≡ texts_hold (decode d mem)
   unfolding texts_hold
   names-refused t e h =
       first-false (lengths_add d mem) _ _ _ _
-      (lengths-are (texts_add d mem) false refl (sym table_is ∙ sym e ∙ refused t h) ∙ and-false (texts_add d mem))
+      (lengths-are (texts_add d mem) false refl (sym table_is ∙ sym e ∙ h) ∙ and-false (texts_add d mem))
 
-  module _ (t u : Bool) (et : t ≡ pool_ok (text_limits d) (text_counts d) (texts_part d mem)) (ht : not t ≡ false) (eu : u ≡ table_ok (name_limits d) (name_counts d) (names_part d mem)) (hu : not u ≡ false) where
+  module _ (t u : Bool) (et : t ≡ pool_ok (text_limits d) (text_counts d) (texts_part d mem)) (ht : t ≡ true) (eu : u ≡ table_ok (name_limits d) (name_counts d) (names_part d mem)) (hu : u ≡ true) where
     pool-holds : (texts_add d mem && all (free_ok d.counts.texts (texts_part d mem)) stack) ≡ true
-    pool-holds = sym pool-is ∙ sym et ∙ passed t ht
+    pool-holds = sym pool-is ∙ sym et ∙ ht
 
     texts-add : texts_add d mem ≡ true
     texts-add = and_left (texts_add d mem) (all (free_ok d.counts.texts (texts_part d mem)) stack) pool-holds
 
     names-add : names_add d mem ≡ true
-    names-add = sym table_is ∙ sym eu ∙ passed u hu
+    names-add = sym table_is ∙ sym eu ∙ hu
 
     texts-decided : (r : Bool)
         → r ≡ (all_below (fields_hold d.counts.texts d.counts.names (decode_nodes d mem)) (slots_made d) && slots_once d.counts.texts (decode_nodes d mem) (slots_made d) (part d.limits.texts d.counts.freetexts (texts_part d mem)))
@@ -291,19 +293,19 @@ module _ (d : Document) (mem : List ℕ) (ok : memory_ok d (length mem) ≡ true
 
   -- ---- the tests in their order
 
-  pub pool-broken : (t : Bool) → t ≡ pool_ok (text_limits d) (text_counts d) (texts_part d mem) → not t ≡ true → false ≡ pool_holds d mem
+  pub pool-broken : (t : Bool) → t ≡ pool_ok (text_limits d) (text_counts d) (texts_part d mem) → t ≡ false → false ≡ pool_holds d mem
   unfolding pool_holds
-  pool-broken t e h = sym (rw (sym e ∙ refused t h))
+  pool-broken t e h = sym (rw (sym e ∙ h))
 
-  module _ (t : Bool) (et : t ≡ pool_ok (text_limits d) (text_counts d) (texts_part d mem)) (ht : not t ≡ false) (u : Bool) (eu : u ≡ table_ok (name_limits d) (name_counts d) (names_part d mem)) where
-    pub table-broken : not u ≡ true → false ≡ pool_holds d mem
+  module _ (t : Bool) (et : t ≡ pool_ok (text_limits d) (text_counts d) (texts_part d mem)) (ht : t ≡ true) (u : Bool) (eu : u ≡ table_ok (name_limits d) (name_counts d) (names_part d mem)) where
+    pub table-broken : u ≡ false → false ≡ pool_holds d mem
     unfolding pool_holds
-    table-broken h = sym (rw (sym et ∙ passed t ht, sym eu ∙ refused u h))
+    table-broken h = sym (rw (sym et ∙ ht, sym eu ∙ h))
 
-    pub pool-decided : not u ≡ false → (r : Bool)
+    pub pool-decided : u ≡ true → (r : Bool)
         → r ≡ slots_once d.counts.texts (decode_nodes d mem) (slots_made d) (part d.limits.texts d.counts.freetexts (texts_part d mem)) → r ≡ pool_holds d mem
     unfolding pool_holds
-    pool-decided h r e = e ∙ sym (rw (sym et ∙ passed t ht, sym eu ∙ passed u h))
+    pool-decided h r e = e ∙ sym (rw (sym et ∙ ht, sym eu ∙ h))
 
   -- ---- what counting the free list asks
 

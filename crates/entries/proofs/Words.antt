@@ -1,5 +1,6 @@
 -- The words of a slot where rule 1 holds of them, and what the document without its texts and names has there.
 -- Assumes nothing.
+use Rattle.std.specs.Prelude.{Some}
 use mathlib.Core.Path.{◌≡◌, sym, ap, ◌∙◌}
 use mathlib.Core.Bool.{Bool, true}
 use mathlib.Core.List.{List, []}
@@ -15,7 +16,6 @@ use Rattle.slots.specs.Regions.{generation_at, record_at, node_at}
 use Rattle.records.specs.Handles.{handle_index, handle_generation}
 use Rattle.records.proofs.Records.{is-node-found}
 use Rattle.slots.proofs.WordsRule.{words-rule-of}
-use Rattle.records.specs.declared.Loaded.TheVariants.{Found}
 use Rattle.model.specs.Doc as doc
 use Rattle.model.specs.Doc.{Doc, handle_word, handle_at, live_slot, resolves}
 use Rattle.layout.specs.declared.Document.{Document}
@@ -48,7 +48,7 @@ module _ (d : Document) (mem : List ℕ) where
       go : Dec (generation_at n w s % 2 ≡ 0) → eqb (g % 2) 0 ≡ live_slot D s
       go (yes v) =
           let r = words-rule-of n w (slots_made d) h in
-          let f : loaded_at n w s ≡ Found (found_node (record_at n w s)) =
+          let f : loaded_at n w s ≡ Some (found_node (record_at n w s)) =
           rw (lt-ltb (generation_at n w s) 4294967296 (r.generation s b)) (is-node-found (record_at n w s) (r.node s b v)) in
           rw same (sym (columns.live-found no_texts [] true d mem s b (found_node (record_at n w s)) f))
       go (no v) =

@@ -1,7 +1,6 @@
 -- Rule 8 as the check decides it: the name numbers and text slots of each live node's fields are tested and the text slots counted, then those of the free
 -- text list; each is to have been counted once.
-use Rattle.std.specs.Prelude.{Bool, ◌&&◌, List, ℕ, ◌+◌, get_or, eqb, ltb}
-use Rattle.std.proofs.Math.Option.{Option}
+use Rattle.std.specs.Prelude.{Bool, ◌&&◌, List, ℕ, ◌+◌, get_or, eqb, ltb, Option}
 use Rattle.words.specs.Parts.{part}
 use Rattle.words.specs.Lists.{count_of, all, all_below}
 use Rattle.texts.specs.Words.{pool_ok}

@@ -12,10 +12,11 @@ ghost use Rattle.entries.specs.Nodes.{decode_nodes, words_hold};
 ghost use Rattle.entries.specs.Marks.{Pass, gathered};
 ghost use Rattle.entries.specs.Entering.{kind_list, parent_words, words_enter, lists_enter, slots_named, marked_once};
 
-use crate::nodes::{both, count, current_word, handle_of, is_live};
+use crate::nodes::{count, current_word, handle_of, is_live};
 use layout::{Arena, Document, arena_at};
 use memory::fields::has_no_parent;
 use memory::read::made;
+use records::kind::{ATTR, NAMESPACE};
 use words::NodeSlot;
 
 // The list of its parent that a node of a kind stands in.
@@ -23,8 +24,8 @@ fn list_number(kind: u64) -> u64
     ensures { result ≡ kind_list kind }
 {
     match kind {
-        2 => 1,
-        5 => 2,
+        ATTR => 1,
+        NAMESPACE => 2,
         _ => 0,
     }
 }
@@ -34,109 +35,84 @@ fn has_parent(mem: &[u64], at: usize, owner: u64) -> bool
     requires { at + 5 < length mem.now }
     ensures { result ≡ parent_words mem.now at owner }
 {
-    both(
-        mem[at + 4] == owner % 4294967296 + 1,
-        mem[at + 5] == owner / 4294967296,
-    )
+    (mem[at + 4] == owner % 4294967296 + 1) & (mem[at + 5] == owner / 4294967296)
 }
 
-// Whether the word entry may stand in a list of the node whose handle is owner: it resolves, to a node of the list's kind with that parent.
-fn entry_holds(mem: &[u64], nodes: usize, made: usize, list: u64, owner: u64, entry: u64) -> bool
-    requires { (15 * nodes ≤ length mem.now) × (made ≤ nodes) }
-    ensures { result ≡ words_enter nodes made mem.now list owner entry }
-{
-    if current_word(mem, made, entry) {
-        let at = nodes * 2 + (entry % 4294967296) as usize * 12;
-        both(has_parent(mem, at, owner), list_number(mem[at]) == list)
-    } else {
+// A live node whose lists are counted: its handle, and of the document what is read once for all of its entries.
+#[derive(Clone, Copy)]
+struct Owner<'a> {
+    mem: &'a [u64],
+    nodes: usize,
+    made: usize,
+    handle: u64,
+    ghost inside: { (15 * nodes ≤ length mem.now) × (made ≤ nodes) },
+}
+
+impl Owner<'_> {
+    // Whether the word entry may stand in the list of this number: it resolves, to a node of the list's kind with this parent.
+    fn holds(self, list: u64, entry: u64) -> bool
+        ensures { result ≡ words_enter self.entry.nodes self.entry.made self.entry.mem.now list self.entry.handle entry }
+    {
+        if current_word(self.mem, self.made, entry) {
+            let at = self.nodes * 2 + (entry % 4294967296) as usize * 12;
+            has_parent(self.mem, at, self.handle) & (list_number(self.mem[at]) == list)
+        } else {
+            false
+        }
+    }
+
+    // The entry is tested and counted.
+    fn count_entry(self, list: u64, entry: u64, marks: &mut [u64]) -> bool
+        requires { self.made ≤ length marks.old }
+        ensures { Pass self.entry.made (words_enter self.entry.nodes self.entry.made self.entry.mem.now list self.entry.handle entry) (handle_index entry ∷ []) marks.old marks.new result }
+    {
+        if self.holds(list, entry) {
+            count(marks, (entry % 4294967296) as usize);
+            return true;
+        }
         false
     }
-}
 
-// The entry is tested and counted.
-fn count_entry(
-    mem: &[u64],
-    nodes: usize,
-    made: usize,
-    list: u64,
-    owner: u64,
-    entry: u64,
-    marks: &mut [u64],
-) -> bool
-    requires { (15 * nodes ≤ length mem.now) × (made ≤ nodes) × (made ≤ length marks.old) }
-    ensures { Pass made (words_enter nodes made mem.now list owner entry) (handle_index entry ∷ []) marks.old marks.new result }
-{
-    if entry_holds(mem, nodes, made, list, owner, entry) {
-        count(marks, (entry % 4294967296) as usize);
-        return true;
-    }
-    false
-}
-
-// The entries of a block, len words from start on.
-fn count_block(
-    mem: &[u64],
-    nodes: usize,
-    made: usize,
-    list: u64,
-    owner: u64,
-    start: usize,
-    len: usize,
-    marks: &mut [u64],
-) -> bool
-    requires { (15 * nodes ≤ length mem.now) × (made ≤ nodes) × (made ≤ length marks.old) × (start + len ≤ length mem.now) }
-    ensures { Pass made (all (words_enter nodes made mem.now list owner) (part start len mem.now)) (map handle_index (part start len mem.now)) marks.old marks.new result }
-{
-    let mut k = 0;
-    while k < len {
-        if !count_entry(mem, nodes, made, list, owner, mem[start + k], marks) {
-            return false;
+    // The entries of the list whose block stands at an index of the memory: its start in the arena, which starts at first, and its length.
+    fn count_list(self, list: u64, at: usize, first: usize, marks: &mut [u64]) -> bool
+        requires marks_in_bounds { self.made ≤ length marks.old }
+        requires at_in_bounds { (at + 1 < length self.mem.now) × (first + get_or self.mem.now at 0 + get_or self.mem.now (at + 1) 0 ≤ length self.mem.now) }
+        ensures { Pass self.entry.made (all (words_enter self.entry.nodes self.entry.made self.entry.mem.now list self.entry.handle) (part (first + get_or self.entry.mem.now at 0) (get_or self.entry.mem.now (at + 1) 0) self.entry.mem.now)) (map handle_index (part (first + get_or self.entry.mem.now at 0) (get_or self.entry.mem.now (at + 1) 0) self.entry.mem.now)) marks.old marks.new result }
+    {
+        let start = first + self.mem[at] as usize;
+        let end = start + self.mem[at + 1] as usize;
+        for &entry in &self.mem[start..end] {
+            if !self.count_entry(list, entry, marks) {
+                return false;
+            }
         }
-        k += 1;
+        true
     }
-    true
-}
-
-// The list whose block stands at an index of the memory: its start in the arena, which starts at first, and its length.
-fn count_list(
-    mem: &[u64],
-    nodes: usize,
-    made: usize,
-    list: u64,
-    owner: u64,
-    at: usize,
-    first: usize,
-    marks: &mut [u64],
-) -> bool
-    requires nodes_in_bounds { (15 * nodes ≤ length mem.now) × (made ≤ nodes) × (made ≤ length marks.old) }
-    requires at_in_bounds { (at + 1 < length mem.now) × (first + get_or mem.now at 0 + get_or mem.now (at + 1) 0 ≤ length mem.now) }
-    ensures { Pass made (all (words_enter nodes made mem.now list owner) (part (first + get_or mem.now at 0) (get_or mem.now (at + 1) 0) mem.now)) (map handle_index (part (first + get_or mem.now at 0) (get_or mem.now (at + 1) 0) mem.now)) marks.old marks.new result }
-{
-    let start = first + mem[at] as usize;
-    let len = mem[at + 1] as usize;
-    count_block(mem, nodes, made, list, owner, start, len, marks)
 }
 
 // The three lists of a live slot, whose handle is owner. Each has its numbers written out, so that none is looked up by the arena.
+// Stays: an `Arena` in their place would be matched again for the number, the words and the start of each list.
 fn count_node(d: Document, mem: &[u64], owner: u64, s: usize, marks: &mut [u64]) -> bool
     requires mem_value { (memory_ok d (length mem.now) ≡ true) × (slots_made d ≤ length marks.old) × (blocks_hold (decode_nodes d mem.now) ≡ true) × (words_hold d mem.now ≡ true) }
     requires s_value { (live_slot (decode_nodes d mem.now) s ≡ true) × (owner ≡ handle_at (decode_nodes d mem.now) s) }
     ensures { Pass (slots_made d) (lists_enter (decode_nodes d mem.now) s) (slots_named (decode_nodes d mem.now) s) marks.old marks.new result }
 {
     let l = d.limits;
-    let n = l.nodes;
-    let slots = made(d);
-    let at = n * 2 + s * 12;
-    let children = arena_at(l, Arena::Children);
-    if !count_list(mem, n, slots, 0, owner, at + 6, children, marks) {
+    let nodes = l.nodes;
+    let node = Owner {
+        mem,
+        nodes,
+        made: made(d),
+        handle: owner,
+    };
+    let at = nodes * 2 + s * 12;
+    if !node.count_list(0, at + 6, arena_at(l, Arena::Children), marks) {
         return false;
     }
-    let attributes = arena_at(l, Arena::Attributes);
-    if !count_list(mem, n, slots, 1, owner, at + 8, attributes, marks) {
+    if !node.count_list(1, at + 8, arena_at(l, Arena::Attributes), marks) {
         return false;
     }
-    let namespaces = arena_at(l, Arena::Namespaces);
-    count_list(mem, n, slots, 2, owner, at + 10, namespaces, marks)
+    node.count_list(2, at + 10, arena_at(l, Arena::Namespaces), marks)
 }
 
 // The lists of a slot, where it is live.
@@ -157,13 +133,10 @@ fn count_lists(d: Document, mem: &[u64], marks: &mut [u64]) -> bool
     requires { (memory_ok d (length mem.now) ≡ true) × (slots_made d ≤ length marks.old) × (blocks_hold (decode_nodes d mem.now) ≡ true) × (words_hold d mem.now ≡ true) }
     ensures { Pass (slots_made d) (all_below (lists_enter (decode_nodes d mem.now)) (slots_made d)) (gathered (slots_named (decode_nodes d mem.now)) (slots_made d)) marks.old marks.new result }
 {
-    let n = made(d);
-    let mut i = 0;
-    while i < n {
+    for i in 0..made(d) {
         if !count_slot(d, mem, i, marks) {
             return false;
         }
-        i += 1;
     }
     true
 }
@@ -188,13 +161,10 @@ fn all_entered(d: Document, mem: &[u64], marks: &[u64]) -> bool
     requires { (memory_ok d (length mem.now) ≡ true) × (slots_made d ≤ length marks.now) × (words_hold d mem.now ≡ true) }
     ensures { result ≡ all_below (marked_once (decode_nodes d mem.now) marks.now) (slots_made d) }
 {
-    let n = made(d);
-    let mut i = 0;
-    while i < n {
+    for i in 0..made(d) {
         if !entered_once(d, mem, i, marks[i]) {
             return false;
         }
-        i += 1;
     }
     true
 }
@@ -205,9 +175,5 @@ pub fn check_entries(d: Document, mem: &[u64], marks: &mut [u64]) -> bool
     requires d_in_bounds { (slots_made d ≤ length marks.old) × (marks.old ≡ replicate (length marks.old) 0) }
     ensures { result ≡ entries_hold (decode_nodes d mem.now) }
 {
-    if count_lists(d, mem, marks) {
-        all_entered(d, mem, marks)
-    } else {
-        false
-    }
+    count_lists(d, mem, marks) && all_entered(d, mem, marks)
 }

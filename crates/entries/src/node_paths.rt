@@ -1,28 +1,30 @@
 // Rule 6: from each live slot whose parent is not known to end, parents are followed until there is none or one that is known, in as many steps as there are
 // slots; then the slots passed are marked as known, so that each is passed twice at most.
-ghost use Rattle.std.specs.Prelude.{◌≡◌, true, ◌<◌, ◌≤◌, length, replicate};
-ghost use Rattle.model.specs.Doc.{live_slot};
+ghost use Rattle.std.specs.Prelude.{◌≡◌, true, ◌<◌, ◌≤◌, length, replicate, MatchOption};
+ghost use Rattle.records.specs.Handles.{handle_index};
+ghost use Rattle.model.specs.Doc.{live_slot, parent_in, map_option};
 ghost use Rattle.model.specs.Rules.{Ends};
 ghost use Rattle.model.specs.RulesTest.{parents_hold, parents_end_holds};
 ghost use Rattle.layout.specs.Layout.{memory_ok};
 ghost use Rattle.memory.specs.Decode.{slots_made};
 ghost use Rattle.entries.specs.Nodes.{decode_nodes, words_hold};
-ghost use Rattle.entries.specs.Paths.{parent_slot, Known, known_slot, Followed, Passed};
+ghost use Rattle.entries.specs.Paths.{Known, Followed, Passed};
 
 use crate::nodes::{is_live, parent_word};
 use layout::Document;
 use memory::read::made;
 
-// The slot of a live slot's parent, and the number of slots made where it has none.
-fn parent_slot(d: Document, mem: &[u64], slot: usize) -> usize
+// The slot of a live slot's parent.
+fn parent_slot(d: Document, mem: &[u64], slot: usize) -> Option<usize>
     requires { (memory_ok d (length mem.now) ≡ true) × (live_slot (decode_nodes d mem.now) slot ≡ true) }
-    ensures { result ≡ parent_slot (decode_nodes d mem.now) slot }
+    ensures { MatchOption result (parent_in (decode_nodes d mem.now) slot ≡ None) (λ s. map_option handle_index (parent_in (decode_nodes d mem.now) slot) ≡ Some s) }
 {
     let word = parent_word(d, mem, slot);
     if word == 0 {
-        return made(d);
+        None
+    } else {
+        Some((word - 1) as usize)
     }
-    (word - 1) as usize
 }
 
 // Whether following parents from a live slot ends, or comes to a slot that is known.
@@ -30,20 +32,17 @@ fn follow(d: Document, mem: &[u64], known: &[u64], slot: usize) -> bool
     requires { (memory_ok d (length mem.now) ≡ true) × (slots_made d ≤ length known.now) × Known (decode_nodes d mem.now) known.now × (parents_hold (decode_nodes d mem.now) ≡ true) × (live_slot (decode_nodes d mem.now) slot ≡ true) }
     ensures { Followed (decode_nodes d mem.now) slot result }
 {
-    let n = made(d);
     let mut at = slot;
-    let mut k = 0;
-    while k < n {
-        if at >= n {
-            return true;
-        }
+    for _ in 0..made(d) {
         if known[at] != 0 {
             return true;
         }
-        at = parent_slot(d, mem, at);
-        k += 1;
+        match parent_slot(d, mem, at) {
+            None => return true,
+            Some(parent) => at = parent,
+        }
     }
-    at >= n
+    false
 }
 
 // Marks the slots on a live slot's path, which ends.
@@ -51,14 +50,13 @@ fn mark_path(d: Document, mem: &[u64], known: &mut [u64], slot: usize)
     requires { (memory_ok d (length mem.now) ≡ true) × (slots_made d ≤ length known.old) × Known (decode_nodes d mem.now) known.old × Ends (decode_nodes d mem.now) slot × (parents_hold (decode_nodes d mem.now) ≡ true) × (live_slot (decode_nodes d mem.now) slot ≡ true) }
     ensures { Known (decode_nodes d mem.now) known.new }
 {
-    let n = made(d);
     let mut at = slot;
-    while at < n {
-        if known[at] != 0 {
-            return;
-        }
+    while known[at] == 0 {
         known[at] = 1;
-        at = parent_slot(d, mem, at);
+        match parent_slot(d, mem, at) {
+            None => return,
+            Some(parent) => at = parent,
+        }
     }
 }
 
@@ -74,15 +72,15 @@ fn pass_path(d: Document, mem: &[u64], known: &mut [u64], slot: usize) -> bool
     true
 }
 
-// Whether a slot is known to end: it is marked, or none that was made.
-fn is_known(known: &[u64], n: usize, slot: usize) -> bool
-    requires { n ≤ length known.now }
-    ensures { result ≡ known_slot known.now n slot }
+// Whether a live slot has no parent, or one that is known.
+fn parent_known(d: Document, mem: &[u64], known: &[u64], slot: usize) -> bool
+    requires { (memory_ok d (length mem.now) ≡ true) × (slots_made d ≤ length known.now) × Known (decode_nodes d mem.now) known.now × (parents_hold (decode_nodes d mem.now) ≡ true) × (live_slot (decode_nodes d mem.now) slot ≡ true) }
+    ensures { result ≡ true → Ends (decode_nodes d mem.now) slot }
 {
-    if slot >= n {
-        return true;
+    match parent_slot(d, mem, slot) {
+        None => true,
+        Some(parent) => known[parent] != 0,
     }
-    known[slot] != 0
 }
 
 // Passes a slot, where it is live. Nearly always its parent is known, and then nothing is followed.
@@ -93,8 +91,7 @@ fn pass_slot(d: Document, mem: &[u64], known: &mut [u64], slot: usize) -> bool
     if !is_live(d, mem, slot) {
         return true;
     }
-    let parent = parent_slot(d, mem, slot);
-    if is_known(known, made(d), parent) {
+    if parent_known(d, mem, known, slot) {
         known[slot] = 1;
         return true;
     }
@@ -107,13 +104,10 @@ pub fn check_paths(d: Document, mem: &[u64], known: &mut [u64]) -> bool
     requires d_in_bounds { (slots_made d ≤ length known.old) × (known.old ≡ replicate (length known.old) 0) }
     ensures { result ≡ parents_end_holds (decode_nodes d mem.now) }
 {
-    let n = made(d);
-    let mut i = 0;
-    while i < n {
+    for i in 0..made(d) {
         if !pass_slot(d, mem, known, i) {
             return false;
         }
-        i += 1;
     }
     true
 }

@@ -1,8 +1,8 @@
 // Rule 8: the fields of a live node are tested and its text slots counted, slot by slot; behind them the lengths of texts and names add up, as their layers say, and
 // with those of the free text list each text slot is to have been counted once.
-ghost use Rattle.std.specs.Prelude.{◌≡◌, true, [], ◌∷◌, ◌≤◌, length};
+ghost use Rattle.std.specs.Prelude.{◌≡◌, true, [], ◌∷◌, ◌≤◌, length, take, eqb};
+ghost use Rattle.std.specs.List.{list_all};
 ghost use Rattle.words.specs.Parts.{part};
-ghost use Rattle.words.specs.Lists.{all_below};
 ghost use Rattle.texts.specs.Words.{pool_ok, Markable, marked};
 ghost use Rattle.names.specs.Words.{table_ok};
 ghost use Rattle.model.specs.Doc.{live_slot, kind_in};
@@ -11,41 +11,34 @@ ghost use Rattle.layout.specs.Layout.{limits_of, memory_ok};
 ghost use Rattle.memory.specs.Decode.{slot_of, slots_made, counts_within, text_limits, text_counts, name_limits, name_counts, texts_part, names_part};
 ghost use Rattle.entries.specs.Nodes.{decode_nodes};
 ghost use Rattle.entries.specs.Marks.{Counted, Pass, gathered};
-ghost use Rattle.entries.specs.Fields.{slots_inside, names_inside, fields_hold, marked_one, slots_once, pool_holds};
+ghost use Rattle.entries.specs.Fields.{slots_inside, names_inside, fields_hold, slots_once, pool_holds};
 
 use crate::nodes::{count, first_text, kind_of, name_of, second_text};
 use layout::Document;
-use memory::stored::{
-    name_counts, name_limits, names_words, text_counts, text_limits, texts_words,
-};
-use records::Chars;
+use memory::stored::{name_table, text_pool};
+use records::kind::{ATTR, ELEMENT};
+use words::TextSlot;
 
 // Whether the name number of an element or an attribute is below the name count.
 fn names_inside(d: Document, mem: &[u64], s: usize) -> bool
     requires { (memory_ok d (length mem.now) ≡ true) × (live_slot (decode_nodes d mem.now) s ≡ true) }
     ensures { result ≡ names_inside d.counts.names (kind_in (decode_nodes d mem.now) s) }
 {
-    let kind = kind_of(d, mem, s);
-    if kind == 0 {
-        return true;
+    match kind_of(d, mem, s) {
+        ELEMENT | ATTR => name_of(d, mem, s) < d.counts.names as u64,
+        _ => true,
     }
-    if 2 < kind {
-        return true;
-    }
-    let c = d.counts;
-    name_of(d, mem, s) < c.names as u64
 }
 
 // A text field is tested and counted.
-fn count_text(text: Chars, texts: usize, marks: &mut [u64]) -> bool
+fn count_text(text: Option<TextSlot>, texts: usize, marks: &mut [u64]) -> bool
     requires { texts ≤ length marks.old }
     ensures { Pass (length marks.old) (slots_inside texts (slots_held (slot_of text ∷ []))) (slots_held (slot_of text ∷ [])) marks.old marks.new result }
 {
     match text {
-        Chars::Empty => true,
-        Chars::Expanded(slot) => {
-            let number = slot.0;
-            let s = number as usize;
+        None => true,
+        Some(slot) => {
+            let s = slot.0 as usize;
             if s >= texts {
                 return false;
             }
@@ -55,14 +48,16 @@ fn count_text(text: Chars, texts: usize, marks: &mut [u64]) -> bool
     }
 }
 
-fn count_texts(first: Chars, second: Chars, texts: usize, marks: &mut [u64]) -> bool
+fn count_texts(
+    first: Option<TextSlot>,
+    second: Option<TextSlot>,
+    texts: usize,
+    marks: &mut [u64],
+) -> bool
     requires { texts ≤ length marks.old }
     ensures { Pass (length marks.old) (slots_inside texts (slots_held (slot_of first ∷ slot_of second ∷ []))) (slots_held (slot_of first ∷ slot_of second ∷ [])) marks.old marks.new result }
 {
-    if !count_text(first, texts, marks) {
-        return false;
-    }
-    count_text(second, texts, marks)
+    count_text(first, texts, marks) && count_text(second, texts, marks)
 }
 
 // The fields of a live slot.
@@ -73,10 +68,9 @@ pub fn count_node(d: Document, mem: &[u64], s: usize, marks: &mut [u64]) -> bool
     if !names_inside(d, mem, s) {
         return false;
     }
-    let c = d.counts;
     let first = first_text(d, mem, s);
     let second = second_text(d, mem, s);
-    count_texts(first, second, c.texts, marks)
+    count_texts(first, second, d.counts.texts, marks)
 }
 
 // What the pool says of itself.
@@ -84,7 +78,7 @@ fn texts_hold(d: Document, mem: &[u64]) -> bool
     requires { memory_ok d (length mem.now) ≡ true }
     ensures { result ≡ pool_ok (text_limits d) (text_counts d) (texts_part d mem.now) }
 {
-    texts::check::check_texts(texts_words(d, mem), text_limits(d), text_counts(d))
+    text_pool(d, mem).is_sound()
 }
 
 // What the name table says of itself.
@@ -92,7 +86,7 @@ fn names_hold(d: Document, mem: &[u64]) -> bool
     requires { memory_ok d (length mem.now) ≡ true }
     ensures { result ≡ table_ok (name_limits d) (name_counts d) (names_part d mem.now) }
 {
-    names::check_names(names_words(d, mem), name_limits(d), name_counts(d))
+    name_table(d, mem).check_names()
 }
 
 // Counts the free text list.
@@ -100,22 +94,16 @@ fn count_free(d: Document, mem: &[u64], marks: &mut [u64])
     requires { (memory_ok d (length mem.now) ≡ true) × (d.counts.freetexts ≤ d.limits.texts) × Markable (part d.limits.texts d.counts.freetexts (texts_part d mem.now)) marks.old }
     ensures { marks.new ≡ marked (part d.limits.texts d.counts.freetexts (texts_part d mem.now)) marks.old }
 {
-    texts::check::mark_free(texts_words(d, mem), text_limits(d), text_counts(d), marks);
+    let pool = text_pool(d, mem);
+    texts::check::mark_free(pool.words, pool.limits, pool.counts, marks);
 }
 
 // Whether each text slot was counted once.
 fn all_once(marks: &[u64], texts: usize) -> bool
     requires { texts ≤ length marks.now }
-    ensures { result ≡ all_below (marked_one marks.now) texts }
+    ensures { result ≡ list_all (λ m. eqb m 1) (take texts marks.now) }
 {
-    let mut s = 0;
-    while s < texts {
-        if marks[s] != 1 {
-            return false;
-        }
-        s += 1;
-    }
-    true
+    marks[..texts].iter().all(|&mark| mark == 1)
 }
 
 // Whether each text slot is held once, where the pool holds and the fields are counted: the free list is counted behind them.
@@ -125,8 +113,7 @@ fn held_once(d: Document, mem: &[u64], marks: &mut [u64]) -> bool
     ensures { result ≡ slots_once d.counts.texts (decode_nodes d mem.now) (slots_made d) (part d.limits.texts d.counts.freetexts (texts_part d mem.now)) }
 {
     count_free(d, mem, marks);
-    let c = d.counts;
-    all_once(marks, c.texts)
+    all_once(marks, d.counts.texts)
 }
 
 // Whether what rule 8 asks besides the fields holds, where the counts are within the limits (rule 1). The marks, a word for each text slot made, have the fields counted before,

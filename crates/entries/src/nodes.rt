@@ -1,5 +1,5 @@
 // What the checks read of a slot: single words, where rule 1 holds of them; and the marks that count.
-ghost use Rattle.std.specs.Prelude.{◌≡◌, true, ◌&&◌, ◌<◌, ◌≤◌, length, get_or, set};
+ghost use Rattle.std.specs.Prelude.{◌≡◌, true, ◌<◌, ◌≤◌, length, get_or, set};
 ghost use Rattle.model.specs.Doc.{handle_at, live_slot, resolves, kind_in, parent_in, range_in};
 ghost use Rattle.layout.specs.Layout.{memory_ok, which_of};
 ghost use Rattle.memory.specs.Decode.{block_of, handle_of, slot_of, slots_made};
@@ -10,8 +10,8 @@ ghost use Rattle.entries.specs.Entering.{current_word};
 use layout::{Arena, Document};
 use memory::fields::{live_block, live_parent, record_word};
 use memory::read::made;
-use records::{Chars, NodeId, Parent, Range};
-use words::NodeSlot;
+use records::{NodeId, Range};
+use words::{NodeSlot, TextSlot};
 
 // Whether a slot is live, where rule 1 holds of the slots' words.
 pub fn is_live(d: Document, mem: &[u64], s: usize) -> bool
@@ -21,23 +21,13 @@ pub fn is_live(d: Document, mem: &[u64], s: usize) -> bool
     mem[s] % 2 == 0
 }
 
-// A call in place of &&: no branch stands between the tests.
-pub fn both(a: bool, b: bool) -> bool
-    ensures { result ≡ (a && b) }
-{
-    if a { b } else { false }
-}
-
 // Whether a handle resolves, by the slots' generations, which the memory starts with.
 pub fn current_word(mem: &[u64], made: usize, handle: u64) -> bool
     requires { made ≤ length mem.now }
     ensures { result ≡ current_word made mem.now handle }
 {
     let s = (handle % 4294967296) as usize;
-    if s >= made {
-        return false;
-    }
-    both(mem[s] % 2 == 0, mem[s] == handle / 4294967296)
+    s < made && (mem[s] % 2 == 0) & (mem[s] == handle / 4294967296)
 }
 
 // Whether a handle resolves in the document: where rule 1 holds of the slots' words, its generation tells.
@@ -65,21 +55,21 @@ pub fn name_of(d: Document, mem: &[u64], s: usize) -> u64
 }
 
 // Its texts, empty where its kind has none.
-pub fn first_text(d: Document, mem: &[u64], s: usize) -> Chars
+pub fn first_text(d: Document, mem: &[u64], s: usize) -> Option<TextSlot>
     requires { (memory_ok d (length mem.now) ≡ true) × (live_slot (decode_nodes d mem.now) s ≡ true) }
     ensures { slot_of result ≡ first_slot (kind_in (decode_nodes d mem.now) s) }
 {
     records::decode::chars_of(record_word(d, mem, NodeSlot(s as u32), 2))
 }
 
-pub fn second_text(d: Document, mem: &[u64], s: usize) -> Chars
+pub fn second_text(d: Document, mem: &[u64], s: usize) -> Option<TextSlot>
     requires { (memory_ok d (length mem.now) ≡ true) × (live_slot (decode_nodes d mem.now) s ≡ true) }
     ensures { slot_of result ≡ second_slot (kind_in (decode_nodes d mem.now) s) }
 {
     records::decode::chars_of(record_word(d, mem, NodeSlot(s as u32), 3))
 }
 
-pub fn parent_of(d: Document, mem: &[u64], s: usize) -> Parent
+pub fn parent_of(d: Document, mem: &[u64], s: usize) -> Option<NodeId>
     requires { (memory_ok d (length mem.now) ≡ true) × (live_slot (decode_nodes d mem.now) s ≡ true) }
     ensures { handle_of result ≡ parent_in (decode_nodes d mem.now) s }
 {

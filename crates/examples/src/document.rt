@@ -1,45 +1,53 @@
-// A small document and its buffers, and what several tests do with it.
+// A small document with its buffers, and what several tests do with it.
 use exports::append::oxml_append_element;
 use exports::start::oxml_start;
 
 // The words of a record.
-pub const RECORD: usize = 19;
+const RECORD: usize = 19;
 
 // The words of the buffers for the limits below, by the formulas of docs/LAYOUT.md.
-pub const MEMORY: usize = 800;
+const MEMORY: usize = 800;
 
-pub const SCRATCH: usize = 272;
+const SCRATCH: usize = 272;
 
 // No handle: its generation is odd.
-pub const NO_NODE: u64 = 18446744073709551615;
+pub const NO_NODE: u64 = u64::MAX;
 
-// A call in place of &&: no branch stands between the tests.
-pub fn both(a: bool, b: bool) -> bool {
-    if a { b } else { false }
+// The words that each exported call is lent.
+#[derive(Drop)]
+pub struct Lent {
+    pub document: [u64; RECORD],
+    pub memory: [u64; MEMORY],
+    pub scratch: [u64; SCRATCH],
 }
 
-// Whether a document starts with room for 16 nodes.
-pub fn starts(document: &mut [u64; RECORD], memory: &mut [u64; MEMORY]) -> bool {
-    document[0] = 16;
-    document[1] = 64;
-    document[2] = 64;
-    document[3] = 64;
-    document[4] = 16;
-    document[5] = 64;
-    document[6] = 8;
-    document[7] = 64;
-    oxml_start(document, memory) == 0
-}
+impl Lent {
+    pub fn new() -> Lent {
+        Lent {
+            document: [0; RECORD],
+            memory: [0; MEMORY],
+            scratch: [0; SCRATCH],
+        }
+    }
 
-// The handle of a new element without a namespace.
-pub fn element(
-    document: &mut [u64; RECORD],
-    memory: &mut [u64; MEMORY],
-    scratch: &mut [u64; SCRATCH],
-    parent: u64,
-    local: &[u8],
-) -> u64 {
-    let mut made = [NO_NODE; 1];
-    oxml_append_element(document, memory, scratch, parent, b"", local, &mut made);
-    made[0]
+    // Whether a document starts with room for 16 nodes.
+    pub fn starts(&mut self) -> bool {
+        self.document[..8].copy_from_slice(&[16, 64, 64, 64, 16, 64, 8, 64]);
+        oxml_start(&mut self.document, &mut self.memory) == 0
+    }
+
+    // The handle of a new element without a namespace.
+    pub fn element(&mut self, parent: u64, local: &[u8]) -> u64 {
+        let mut made = [NO_NODE];
+        oxml_append_element(
+            &mut self.document,
+            &mut self.memory,
+            &mut self.scratch,
+            parent,
+            b"",
+            local,
+            &mut made,
+        );
+        made[0]
+    }
 }

@@ -1,5 +1,6 @@
 -- An exported call's promise from that of the call behind it and what was written.
 -- Assumes nothing.
+use Rattle.std.specs.Prelude.{Result, Ok, Err, None, Option}
 use mathlib.Core.Path.{◌≡◌, refl, sym, ap, subst, ◌∙◌}
 use mathlib.Core.Bool.{Bool, true≢false, false≢true}
 use mathlib.Core.List.{List, [], ◌∷◌}
@@ -19,23 +20,12 @@ use Rattle.layout.specs.declared.Document.{Document}
 use Rattle.editing.specs.Contract.{Edits}
 use Rattle.tree.specs.Contract.{Starts}
 use Rattle.tree.specs.Answers.{of_start, started_record}
-use Rattle.tree.specs.declared.start.StartAnswer.{StartAnswer}
-use Rattle.tree.specs.declared.start.StartAnswer.TheVariants as startAnswer
 use Rattle.layout.specs.declared.Limits.{Limits}
-use Rattle.editing.specs.Answers.{of_done, after_done, of_made, after_made, of_found, after_found, of_order, after_order}
-use Rattle.editing.specs.declared.answers.DoneAnswer.{DoneAnswer}
-use Rattle.editing.specs.declared.answers.DoneAnswer.TheVariants as doneAnswer
-use Rattle.editing.specs.declared.answers.MadeAnswer.{MadeAnswer}
-use Rattle.editing.specs.declared.answers.MadeAnswer.TheVariants as madeAnswer
-use Rattle.editing.specs.declared.answers.FoundAnswer.{FoundAnswer}
-use Rattle.editing.specs.declared.answers.FoundAnswer.TheVariants as foundAnswer
-use Rattle.editing.specs.declared.answers.OrderAnswer.{OrderAnswer}
-use Rattle.editing.specs.declared.answers.OrderAnswer.TheVariants as orderAnswer
+use Rattle.edits.specs.declared.born.NewNode.{NewNode}
+use Rattle.editing.specs.Answers.{of_done, after_done, of_made, after_made, of_found, after_found, of_order}
 use Rattle.editing.proofs.Numbers.{never-zero}
-use Rattle.encoding.specs.declared.record.Lent.{Lent}
-use Rattle.encoding.specs.declared.record.Lent.TheVariants.{Short}
 use Rattle.encoding.specs.Records.{document_of, truth_word, words_of, lent_record}
-use Rattle.encoding.specs.Given.{status_of, given_to, start_record, done_record, order_record, made_record, made_words, found_record, found_words}
+use Rattle.encoding.specs.Given.{status_of, given_to, done_record, made_record, made_words, found_record, found_words}
 use Rattle.exports.specs.Contract.{told, Telling, as_done, as_made, as_truth, as_order, Returned, Exported, ExportedStart}
 use Rattle.encoding.proofs.Records.{Whole, not-lent, truth-back, written_back, length-words_of}
 
@@ -81,7 +71,7 @@ by_word f w id e d mem scratch a d' mem' scratch' x =
 -- ---- the promise
 
 module _ (c : Call) (n : ℕ) (telling : Telling) (words mem scratch out : List ℕ) where
-  pub too_short : (l : Lent) → l ≡ lent_record words (length out) n → l ≡ Short → Exported c n telling words mem scratch out 4 words mem scratch out
+  pub too_short : (l : Option Document) → l ≡ lent_record words (length out) n → l ≡ None → Exported c n telling words mem scratch out 4 words mem scratch out
   too_short l e s = record {
     short = λ f. (refl, refl, refl, refl, refl);
     edits = λ t. absurd (false≢true (sym (not-lent words (length out) n l e s) ∙ t));
@@ -114,19 +104,19 @@ module _ (c : Call) (n : ℕ) (telling : Telling) (words mem scratch out : List 
 -- ---- each kind of answer
 
 module _ (c : Call) (words mem scratch out : List ℕ) (d : Document) (l : Whole words (length out) 1 d) (status : ℕ) (words' mem' scratch' out' : List ℕ) where
-  pub makes : (r : MadeAnswer) → Edits c d mem scratch (of_made r) (after_made d r) mem' scratch'
+  pub makes : (r : Result NewNode Refusal) → Edits c d mem scratch (of_made r) (after_made d r) mem' scratch'
       → status ≡ status_of (made_words r) → words' ≡ given_to words (made_record r) → out' ≡ given_to out (made_words r)
       → Exported c 1 as_made words mem scratch out status words' mem' scratch' out'
-  makes (madeAnswer.Made m) e s w o = rw (s, w, o) (accepts c 1 as_made words mem scratch out d l mem' scratch' (word_of m.id ∷ []) m.document refl e)
-  makes (madeAnswer.Refused why) e s w o = rw (s, w, o) (refuses c 1 as_made words mem scratch out d l mem' scratch' why e)
+  makes (Ok m) e s w o = rw (s, w, o) (accepts c 1 as_made words mem scratch out d l mem' scratch' (word_of m.id ∷ []) m.document refl e)
+  makes (Err why) e s w o = rw (s, w, o) (refuses c 1 as_made words mem scratch out d l mem' scratch' why e)
 
-  pub finds : (r : FoundAnswer) → Edits c d mem scratch (of_found r) (after_found d r) mem' scratch'
+  pub finds : (r : Result (Document × Bool) Refusal) → Edits c d mem scratch (of_found r) (after_found d r) mem' scratch'
       → status ≡ status_of (found_words r) → words' ≡ given_to words (found_record r) → out' ≡ given_to out (found_words r)
       → Exported c 1 as_truth words mem scratch out status words' mem' scratch' out'
-  finds (foundAnswer.Found d' t) e s w o =
+  finds (Ok (d', t)) e s w o =
       rw (s, w, o) (accepts c 1 as_truth words mem scratch out d l mem' scratch' (truth_word t ∷ []) d' refl
       (subst (λ (u : Bool). Edits c d mem scratch (truth u) d' mem' scratch') (sym (truth-back t)) e))
-  finds (foundAnswer.Refused why) e s w o = rw (s, w, o) (refuses c 1 as_truth words mem scratch out d l mem' scratch' why e)
+  finds (Err why) e s w o = rw (s, w, o) (refuses c 1 as_truth words mem scratch out d l mem' scratch' why e)
 
 module _ (c : Call) (words mem scratch : List ℕ) (d : Document) (l : Whole words 0 0 d) (status : ℕ) (words' mem' scratch' : List ℕ) where
   accepts-done : (telling : Telling) (d' : Document) → Edits c d mem scratch (telling [] d' mem') d' mem' scratch'
@@ -135,22 +125,22 @@ module _ (c : Call) (words mem scratch : List ℕ) (d : Document) (l : Whole wor
       subst (λ (o : List ℕ). Exported c 0 telling words mem scratch [] 0 (put 0 (words_of d') words) mem' scratch' o) (put-nil [] 0 [])
       (accepts c 0 telling words mem scratch [] d l mem' scratch' [] d' refl e)
 
-  pub does : (r : DoneAnswer) → Edits c d mem scratch (of_done r) (after_done d r) mem' scratch'
+  pub does : (r : Result Document Refusal) → Edits c d mem scratch (of_done r) (after_done d r) mem' scratch'
       → status ≡ status_of (done_record r) → words' ≡ given_to words (done_record r)
       → Exported c 0 as_done words mem scratch [] status words' mem' scratch' []
-  does (doneAnswer.Done d') e s w = rw (s, w) (accepts-done as_done d' e)
-  does (doneAnswer.Refused why) e s w = rw (s, w) (refuses c 0 as_done words mem scratch [] d l mem' scratch' why e)
+  does (Ok d') e s w = rw (s, w) (accepts-done as_done d' e)
+  does (Err why) e s w = rw (s, w) (refuses c 0 as_done words mem scratch [] d l mem' scratch' why e)
 
-  pub orders : (r : OrderAnswer) → Edits c d mem scratch (of_order mem' r) (after_order d r) mem' scratch'
-      → status ≡ status_of (order_record r) → words' ≡ given_to words (order_record r)
+  pub orders : (r : Result Document Refusal) → Edits c d mem scratch (of_order mem' r) (after_done d r) mem' scratch'
+      → status ≡ status_of (done_record r) → words' ≡ given_to words (done_record r)
       → Exported c 0 as_order words mem scratch [] status words' mem' scratch' []
-  orders (orderAnswer.Order d') e s w = rw (s, w) (accepts-done as_order d' e)
-  orders (orderAnswer.Refused why) e s w = rw (s, w) (refuses c 0 as_order words mem scratch [] d l mem' scratch' why e)
+  orders (Ok d') e s w = rw (s, w) (accepts-done as_order d' e)
+  orders (Err why) e s w = rw (s, w) (refuses c 0 as_order words mem scratch [] d l mem' scratch' why e)
 
 -- ---- Start
 
 module _ (words mem : List ℕ) where
-  pub start-short : (l : Lent) → l ≡ lent_record words 0 0 → l ≡ Short → ExportedStart words mem 4 words mem
+  pub start-short : (l : Option Document) → l ≡ lent_record words 0 0 → l ≡ None → ExportedStart words mem 4 words mem
   start-short l e s = record {
     short = λ f. (refl, refl, refl);
     starts = λ t. absurd (false≢true (sym (not-lent words 0 0 l e s) ∙ t));
@@ -164,10 +154,10 @@ module _ (words mem : List ℕ) where
       rw (told-refused w done)
       (record { answer = e.answer; laid = λ f. absurd (true≢false f); zeroed = λ f. absurd (true≢false f); kept = e.kept; lent = e.lent; beyond = e.beyond })
 
-  pub starts : (d : Document) → Whole words 0 0 d → (status : ℕ) (words' mem' : List ℕ) (r : StartAnswer)
+  pub starts : (d : Document) → Whole words 0 0 d → (status : ℕ) (words' mem' : List ℕ) (r : Result Document Refusal)
       → Starts d.limits mem (of_start r) (started_record d.limits r) mem'
-      → status ≡ status_of (start_record r) → words' ≡ given_to words (start_record r) → ExportedStart words mem status words' mem'
-  starts d l status words' mem' (startAnswer.Started d') e s w =
+      → status ≡ status_of (done_record r) → words' ≡ given_to words (done_record r) → ExportedStart words mem status words' mem'
+  starts d l status words' mem' (Ok d') e s w =
       rw (s, w)
       (record {
         short = λ f. absurd (true≢false (sym l.lent ∙ f));
@@ -175,11 +165,11 @@ module _ (words mem : List ℕ) where
         document = record-returned d' words l.words;
         canonical = λ z. record-canonical d' words;
       })
-  starts d l status words' mem' (startAnswer.Refused why) e s w =
+  starts d l status words' mem' (Err why) e s w =
       rw (s, w)
       (record {
         short = λ f. absurd (true≢false (sym l.lent ∙ f));
-        starts = λ t. rw (← l.is) (any-record d.limits why (started_record d.limits (startAnswer.Refused why)) d mem' e);
+        starts = λ t. rw (← l.is) (any-record d.limits why (started_record d.limits (Err why)) d mem' e);
         document = returned-none words 19 (number_of why) (λ z. never-zero why z);
         canonical = λ z. never-zero why z;
       })

@@ -1,5 +1,7 @@
 -- A reading call's promise from that of the call behind it and what was written.
 -- Assumes nothing.
+use Rattle.words.specs.declared.TextSlot.{TextSlot}
+use Rattle.std.specs.Prelude.{Result, Ok, Err, Some, None, Option}
 use mathlib.Core.Path.{◌≡◌, refl, sym, ap, subst, ◌∙◌}
 use mathlib.Core.Bool.{Bool, true≢false, false≢true}
 use mathlib.Core.List.{List}
@@ -9,39 +11,24 @@ use lib.ListN.{length, take}
 use borrow.Author.Tests.{ne_eqb}
 use Rattle.words.specs.Parts.{put}
 use Rattle.records.specs.declared.NodeId.{NodeId}
-use Rattle.records.specs.declared.Chars.{Chars}
-use Rattle.records.specs.declared.Chars.TheVariants.{Empty, Expanded}
 use Rattle.records.specs.declared.NodeData.{NodeData}
 use Rattle.records.specs.declared.NodeData.TheVariants as goal
 use Rattle.records.specs.Handles.{word_of, id_of}
 use Rattle.records.specs.Records.{chars_word}
 use Rattle.records.proofs.Handles.{word_of-id_of}
 use Rattle.model.specs.Refusals.{number_of}
+use Rattle.model.specs.declared.Refusal.{Refusal}
+use Rattle.words.specs.declared.NameId.{NameId}
+use Rattle.records.specs.declared.Range.{Range}
 use Rattle.model.specs.Kinds.{Which}
 use Rattle.model.specs.Calls.{Call, Answered, refused, truth, name_of}
 use Rattle.layout.specs.declared.Document.{Document}
 use Rattle.memory.specs.Decode.{slot_of}
 use Rattle.reading.specs.Answers.{of_truth, of_node, of_root, of_list, of_key, of_kind, of_name, name_part}
 use Rattle.reading.specs.Contract.{reads}
-use Rattle.reading.specs.declared.answers.TruthAnswer.{TruthAnswer}
-use Rattle.reading.specs.declared.answers.TruthAnswer.TheVariants as truthAnswer
-use Rattle.reading.specs.declared.answers.NodeAnswer.{NodeAnswer}
-use Rattle.reading.specs.declared.answers.NodeAnswer.TheVariants as nodeAnswer
-use Rattle.reading.specs.declared.answers.RootAnswer.{RootAnswer}
-use Rattle.reading.specs.declared.answers.RootAnswer.TheVariants as rootAnswer
-use Rattle.reading.specs.declared.answers.ListAnswer.{ListAnswer}
-use Rattle.reading.specs.declared.answers.ListAnswer.TheVariants as listAnswer
-use Rattle.reading.specs.declared.answers.KeyAnswer.{KeyAnswer}
-use Rattle.reading.specs.declared.answers.KeyAnswer.TheVariants as keyAnswer
-use Rattle.reading.specs.declared.answers.KindAnswer.{KindAnswer}
-use Rattle.reading.specs.declared.answers.KindAnswer.TheVariants as kindAnswer
-use Rattle.reading.specs.declared.answers.NameAnswer.{NameAnswer}
-use Rattle.reading.specs.declared.answers.NameAnswer.TheVariants as nameAnswer
 use Rattle.editing.proofs.Numbers.{never-zero}
-use Rattle.encoding.specs.declared.record.Lent.{Lent}
-use Rattle.encoding.specs.declared.record.Lent.TheVariants.{Short}
 use Rattle.encoding.specs.Records.{document_of, lent_record}
-use Rattle.encoding.specs.Given.{Given, refusal, words, status_of, given_to, root_words, truth_words, node_words, key_words, list_words, name_words, data_words, kind_words}
+use Rattle.encoding.specs.Given.{Given, status_of, given_to, root_words, truth_words, node_words, key_words, list_words, name_words, data_words, kind_words}
 use Rattle.exports.specs.Contract.{Telling, as_made, as_truth, as_node, as_key, as_list, slot_told, as_kind, as_name, Returned, ExportedRead}
 use Rattle.names.specs.Table.{name}
 use Rattle.exports.proofs.Beyond.{own_name}
@@ -51,48 +38,48 @@ use Rattle.exports.proofs.Exporting.{front, told-refused, returned-words, return
 -- ---- what is given tells the answer
 
 abbrev pub Sized : ℕ → Given → Type 0
-Sized n (refusal why) = Unit {0}
-Sized n (words vs) = length vs ≡ n
+Sized n (Err why) = Unit {0}
+Sized n (Ok vs) = length vs ≡ n
 
 abbrev pub answer_of : Telling → Document → List ℕ → Given → Answered
-answer_of telling d mem (refusal why) = refused (number_of why)
-answer_of telling d mem (words vs) = telling vs d mem
+answer_of telling d mem (Err why) = refused (number_of why)
+answer_of telling d mem (Ok vs) = telling vs d mem
 
 pub record Tells (n : ℕ) (telling : Telling) (d : Document) (mem : List ℕ) (g : Given) (a : Answered) : Type 0 where
   pub sized : Sized n g
   pub answer : answer_of telling d mem g ≡ a
 
 module _ (d : Document) (mem : List ℕ) where
-  pub tells-root : (r : RootAnswer) → Tells 1 as_made d mem (root_words r) (of_root r)
-  tells-root (rootAnswer.Root id) = record { sized = refl; answer = refl }
-  tells-root (rootAnswer.Refused why) = record { sized = tt; answer = refl }
+  pub tells-root : (r : Result NodeId Refusal) → Tells 1 as_made d mem (root_words r) (of_root r)
+  tells-root (Ok id) = record { sized = refl; answer = refl }
+  tells-root (Err why) = record { sized = tt; answer = refl }
 
-  pub tells-truth : (r : TruthAnswer) → Tells 1 as_truth d mem (truth_words r) (of_truth r)
-  tells-truth (truthAnswer.Is t) = record { sized = refl; answer = ap (λ (u : Bool). truth u) (truth-back t) }
-  tells-truth (truthAnswer.Refused why) = record { sized = tt; answer = refl }
+  pub tells-truth : (r : Result Bool Refusal) → Tells 1 as_truth d mem (truth_words r) (of_truth r)
+  tells-truth (Ok t) = record { sized = refl; answer = ap (λ (u : Bool). truth u) (truth-back t) }
+  tells-truth (Err why) = record { sized = tt; answer = refl }
 
-  pub tells-node : (r : NodeAnswer) → Tells 2 as_node d mem (node_words r) (of_node r)
-  tells-node (nodeAnswer.Node id) = record { sized = refl; answer = refl }
-  tells-node nodeAnswer.Nothing = record { sized = refl; answer = refl }
-  tells-node (nodeAnswer.Refused why) = record { sized = tt; answer = refl }
+  pub tells-node : (r : Result (Option NodeId) Refusal) → Tells 2 as_node d mem (node_words r) (of_node r)
+  tells-node (Ok (Some id)) = record { sized = refl; answer = refl }
+  tells-node (Ok None) = record { sized = refl; answer = refl }
+  tells-node (Err why) = record { sized = tt; answer = refl }
 
-  pub tells-key : (r : KeyAnswer) → Tells 2 as_key d mem (key_words r) (of_key r)
-  tells-key (keyAnswer.At n) = record { sized = refl; answer = refl }
-  tells-key keyAnswer.Nothing = record { sized = refl; answer = refl }
-  tells-key (keyAnswer.Refused why) = record { sized = tt; answer = refl }
+  pub tells-key : (r : Result (Option ℕ) Refusal) → Tells 2 as_key d mem (key_words r) (of_key r)
+  tells-key (Ok (Some n)) = record { sized = refl; answer = refl }
+  tells-key (Ok None) = record { sized = refl; answer = refl }
+  tells-key (Err why) = record { sized = tt; answer = refl }
 
-  pub tells-list : (w : Which) (r : ListAnswer) → Tells 2 (as_list w) d mem (list_words r) (of_list d mem w r)
-  tells-list w (listAnswer.Block b) = record { sized = refl; answer = refl }
-  tells-list w (listAnswer.Refused why) = record { sized = tt; answer = refl }
+  pub tells-list : (w : Which) (r : Result Range Refusal) → Tells 2 (as_list w) d mem (list_words r) (of_list d mem w r)
+  tells-list w (Ok b) = record { sized = refl; answer = refl }
+  tells-list w (Err why) = record { sized = tt; answer = refl }
 
   -- a text's word tells its slot
-  slot-told : (t : Chars) → slot_told (chars_word t) ≡ slot_of t
-  slot-told Empty = refl
-  slot-told (Expanded s) =
+  slot-told : (t : Option TextSlot) → slot_told (chars_word t) ≡ slot_of t
+  slot-told None = refl
+  slot-told (Some s) =
       let e : s.0 + 1 - 1 ≡ s.0 = omega arith in
       rw (ne_eqb (s.0 + 1) 0 (λ z. omega arith), e)
 
-  kind-told : (v : NodeData) → as_kind (data_words v) d mem ≡ of_kind d mem (kindAnswer.Kind v)
+  kind-told : (v : NodeData) → as_kind (data_words v) d mem ≡ of_kind d mem (Ok (Some v))
   unfolding data_words
   kind-told goal.Root = refl
   kind-told (goal.Element n a s) = refl
@@ -102,16 +89,16 @@ module _ (d : Document) (mem : List ℕ) where
   kind-told (goal.Namespace p u) = rw (slot-told p, slot-told u)
   kind-told (goal.ProcessingInstruction t c) = rw (slot-told t, slot-told c)
 
-  pub tells-kind : (r : KindAnswer) → Tells 8 as_kind d mem (kind_words r) (of_kind d mem r)
+  pub tells-kind : (r : Result (Option NodeData) Refusal) → Tells 8 as_kind d mem (kind_words r) (of_kind d mem r)
   unfolding data_words
-  tells-kind (kindAnswer.Kind v) = record { sized = refl; answer = kind-told v }
-  tells-kind kindAnswer.Nothing = record { sized = refl; answer = refl }
-  tells-kind (kindAnswer.Refused why) = record { sized = tt; answer = refl }
+  tells-kind (Ok (Some v)) = record { sized = refl; answer = kind-told v }
+  tells-kind (Ok None) = record { sized = refl; answer = refl }
+  tells-kind (Err why) = record { sized = tt; answer = refl }
 
-  pub tells-name : (n : ℕ) (r : NameAnswer) → of_name d mem r ≡ reads (name_of n) d mem → Tells 1 (as_name n) d mem (name_words r) (reads (name_of n) d mem)
-  tells-name n (nameAnswer.Name m) e = record { sized = refl; answer = own_name d mem n (name (name_part d mem m.0 0) (name_part d mem m.0 1)) e }
-  tells-name n nameAnswer.Nothing e = record { sized = refl; answer = e }
-  tells-name n (nameAnswer.Refused why) e = record { sized = tt; answer = e }
+  pub tells-name : (n : ℕ) (r : Result (Option NameId) Refusal) → of_name d mem r ≡ reads (name_of n) d mem → Tells 1 (as_name n) d mem (name_words r) (reads (name_of n) d mem)
+  tells-name n (Ok (Some m)) e = record { sized = refl; answer = own_name d mem n (name (name_part d mem m.0 0) (name_part d mem m.0 1)) e }
+  tells-name n (Ok None) e = record { sized = refl; answer = e }
+  tells-name n (Err why) e = record { sized = tt; answer = e }
 
 -- ---- a handle is given by its word
 
@@ -121,7 +108,7 @@ read_word f w id e d mem a x = x ∙ ap (λ (h : ℕ). reads (f h) d mem) (ap wo
 -- ---- the promise
 
 module _ (c : Call) (n : ℕ) (telling : Telling) (document mem out : List ℕ) where
-  pub read_short : (l : Lent) → l ≡ lent_record document (length out) n → l ≡ Short → ExportedRead c n telling document mem out 4 out
+  pub read_short : (l : Option Document) → l ≡ lent_record document (length out) n → l ≡ None → ExportedRead c n telling document mem out 4 out
   read_short l e s = record {
     short = λ f. (refl, refl);
     shows = λ t. absurd (false≢true (sym (not-lent document (length out) n l e s) ∙ t));
@@ -130,12 +117,12 @@ module _ (c : Call) (n : ℕ) (telling : Telling) (document mem out : List ℕ) 
 
   module _ (d : Document) (l : Whole document (length out) n d) where
     shown : (g : Given) (a : Answered) → Tells n telling d mem g a → a ≡ reads c d mem → ExportedRead c n telling document mem out (status_of g) (given_to out g)
-    shown (refusal why) a t e = record {
+    shown (Err why) a t e = record {
       short = λ f. absurd (true≢false (sym l.lent ∙ f));
       shows = λ q. rw (told-refused why (telling (take n out) (document_of document) mem), ← l.is) (t.answer ∙ e);
       answer = returned-none out n (number_of why) (λ z. never-zero why z);
     }
-    shown (words vs) a t e = record {
+    shown (Ok vs) a t e = record {
       short = λ f. absurd (true≢false (sym l.lent ∙ f));
       shows = λ q. rw (← t.sized, front out vs, ← l.is) (t.answer ∙ e);
       answer = subst (λ (k : ℕ). Returned k out 0 (put 0 vs out)) t.sized (returned-words out vs (rw t.sized l.enough));

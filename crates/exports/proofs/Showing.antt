@@ -1,28 +1,25 @@
 -- Words that are copied out.
 -- Assumes nothing.
+use Rattle.std.specs.Prelude.{Result, Ok, Err, None, Option}
+use Rattle.model.specs.declared.Refusal.{Refusal}
 use mathlib.Core.Path.{◌≡◌, refl, sym, ap, ◌∙◌}
-use mathlib.Core.Bool.{Bool, true, false, cond}
+use mathlib.Core.Bool.{Bool, true, false, cond, true≢false, false≢true}
 use mathlib.Core.List.{List, [], ◌∷◌, ◌++◌}
-use Prim.Native.Nat.{ℕ, suc, ◌+◌, ◌≤◌, ◌<◌}
-use native.Mathlib.Numerals.{add-one}
+use Prim.Native.Nat.{ℕ, ◌+◌, ◌≤◌, ◌<◌}
 use native.Mathlib.Omega.{arith}
-use lib.ListN.{length, get_or, set, take}
+use native.Mathlib.Nat.{zero-add}
+use lib.ListN.{length, get_or, take, drop}
 use borrow.Author.Tests.{le-leb, lt-leb, ne_eqb}
-use Rattle.words.specs.Parts.{part, put}
-use Rattle.words.proofs.Parts.{length_part, part_none, part-snoc, part-all, put-nil, set-put-after}
+use Rattle.words.specs.Parts.{put}
+use Rattle.words.proofs.Parts.{put-nil}
 use Rattle.blocks.specs.Arena.{Block}
 use Rattle.layout.specs.declared.Document.{Document}
 use Rattle.model.specs.Kinds.{children, attributes, namespaces}
 use Rattle.reading.specs.Answers.{entries_shown}
 use Rattle.reading.specs.Contract.{NodesRead}
-use Rattle.reading.specs.declared.answers.NodesAnswer.{NodesAnswer}
-use Rattle.reading.specs.declared.answers.NodesAnswer.TheVariants as nodesAnswer
 use Rattle.editing.proofs.Numbers.{never-zero}
 use Rattle.model.specs.Refusals.{number_of}
 use Rattle.model.specs.Calls.{every_node}
-use mathlib.Core.Bool.{true≢false, false≢true}
-use Rattle.encoding.specs.declared.record.Lent.{Lent}
-use Rattle.encoding.specs.declared.record.Lent.TheVariants.{Short}
 use Rattle.encoding.specs.Records.{document_of, is_lent, lent_record}
 use Rattle.encoding.specs.Given.{status_of, given_to, count_words}
 use Rattle.exports.specs.Contract.{shown_to, shown_for, entries_told, ExportedShow, ExportedNodes}
@@ -31,23 +28,9 @@ use Rattle.exports.proofs.Exporting.{told-refused, returned-words, returned-none
 
 -- ---- the copy
 
-pub copy-first : (out ws : List ℕ) → out ≡ put 0 (part 0 0 ws) out
-copy-first out ws = sym (ap (λ (r : List ℕ). put 0 r out) (part_none ws 0) ∙ put-nil out 0 [])
-
--- a turn on the list m that the copy of k words left
-pub copy-turn : (out m ws : List ℕ) (k : ℕ) → k < length ws → length ws ≤ length out → m ≡ put 0 (part 0 k ws) out
-    → set m k (get_or ws k 0) ≡ put 0 (part 0 (k + 1) ws) out
-copy-turn out m ws k h f e =
-    let z : 0 + k ≡ k = omega arith in
-    let n : length (part 0 k ws) ≡ k = length_part ws 0 k (omega arith) in
-    let q : 0 + length (part 0 k ws) ≡ k = omega arith in
-    let p : part 0 (suc k) ws ≡ part 0 k ws ++ (get_or ws k 0 ∷ []) = rw z at (part-snoc ws 0 k 0 (omega arith)) in
-    rw (e, add-one k, p) (rw q at (set-put-after out 0 (part 0 k ws) (get_or ws k 0) (omega arith)))
-
-pub copy_done : (out m ws : List ℕ) (k : ℕ) → k ≤ length ws → length ws ≤ k → m ≡ put 0 (part 0 k ws) out → m ≡ put 0 ws out
-copy_done out m ws k a b e =
-    let q : k ≡ length ws = omega arith in
-    e ∙ ap (λ (n : ℕ). put 0 (part 0 n ws) out) q ∙ ap (λ (r : List ℕ). put 0 r out) (part-all ws)
+pub copied : (ws out front : List ℕ) → front ≡ ws → front ++ drop (length ws) out ≡ put 0 ws out
+unfolding put
+copied ws out front e = rw (e, zero-add) refl
 
 pub shown-all : (ws out out' : List ℕ) → length ws ≤ length out → out' ≡ put 0 ws out → out' ≡ shown_to ws out
 unfolding shown_to
@@ -83,7 +66,7 @@ module _ (words : List ℕ) where
   unfolding shown_for
   shown-for vs t e = rw e
 
-  pub shows-none : (vs out : List ℕ) (l : Lent) → l ≡ lent_record words 0 0 → l ≡ Short → ExportedShow words vs out 0 out
+  pub shows-none : (vs out : List ℕ) (l : Option Document) → l ≡ lent_record words 0 0 → l ≡ None → ExportedShow words vs out 0 out
   shows-none vs out l e s =
       let q : shown_for words vs ≡ [] = shown-for vs false (not-lent words 0 0 l e s) in
       record {
@@ -100,7 +83,7 @@ module _ (words : List ℕ) where
 -- ---- every live node
 
 module _ (words mem list out : List ℕ) where
-  pub nodes-short : (l : Lent) → l ≡ lent_record words (length out) 1 → l ≡ Short → ExportedNodes words mem list out 4 list out
+  pub nodes-short : (l : Option Document) → l ≡ lent_record words (length out) 1 → l ≡ None → ExportedNodes words mem list out 4 list out
   nodes-short l e s =
       let f = not-lent words (length out) 1 l e s in
       record {
@@ -110,10 +93,10 @@ module _ (words mem list out : List ℕ) where
         answer = returned-none out 1 4 (λ z. omega arith);
       }
 
-  pub nodes-shown : (d : Document) → Whole words (length out) 1 d → (r : NodesAnswer) (status : ℕ) (list' out' : List ℕ) → NodesRead d mem list list' r
+  pub nodes-shown : (d : Document) → Whole words (length out) 1 d → (r : Result ℕ Refusal) (status : ℕ) (list' out' : List ℕ) → NodesRead d mem list list' r
       → (status ≡ status_of (count_words r)) × (out' ≡ given_to out (count_words r)) → ExportedNodes words mem list out status list' out'
   unfolding put
-  nodes-shown d l (nodesAnswer.Count n) status list' out' e q =
+  nodes-shown d l (Ok n) status list' out' e q =
       rw (q.0, q.1)
       (record {
         short = λ z. absurd (true≢false (sym l.lent ∙ z));
@@ -121,7 +104,7 @@ module _ (words mem list out : List ℕ) where
         listed = λ t. rw (← l.is) e.buffer;
         answer = returned-words out (n ∷ []) l.enough;
       })
-  nodes-shown d l (nodesAnswer.Refused why) status list' out' e q =
+  nodes-shown d l (Err why) status list' out' e q =
       rw (q.0, q.1)
       (record {
         short = λ z. absurd (true≢false (sym l.lent ∙ z));

@@ -1,7 +1,6 @@
 -- What an exported call promises, for all words, slices and numbers: what the call behind it promises, told by the number that is returned and
 -- the words that are written.
-use Rattle.std.specs.Prelude.{◌≡◌, ◌≢◌, true, false, not, cond, List, [], ℕ, ◌-◌, length, get_or, take, eqb, leb}
-use Rattle.std.proofs.Math.Option.{Option, none, some}
+use Rattle.std.specs.Prelude.{◌≡◌, ◌≢◌, true, false, not, cond, List, [], ℕ, ◌-◌, length, get_or, take, eqb, leb, Option, None, Some}
 use Rattle.words.specs.Parts.{put}
 use Rattle.model.specs.Calls.{Call, Answered, refused, done, made, truth, node, listed, kind_is, name_is, key, keys, every_node, nodes, step}
 use Rattle.layout.specs.declared.Document.{Document}
@@ -36,7 +35,7 @@ as_truth out d mem = truth (not (eqb (get_or out 0 0) 0))
 
 -- a number behind a 1, or none
 abbrev pub behind_one : List ℕ → Option ℕ
-behind_one out = cond (eqb (get_or out 0 0) 0) none (some (get_or out 1 0))
+behind_one out = cond (eqb (get_or out 0 0) 0) None (Some (get_or out 1 0))
 
 abbrev pub as_node : Telling
 as_node out d mem = node (behind_one out)
@@ -50,16 +49,16 @@ as_list w out d mem = let b = block (get_or out 0 0) (get_or out 1 0) in listed 
 
 -- a text's slot + 1, or 0 for none; `oxml_text_bytes` shows its bytes
 abbrev pub slot_told : ℕ → Option ℕ
-slot_told w = cond (eqb w 0) none (some (w - 1))
+slot_told w = cond (eqb w 0) None (Some (w - 1))
 
 -- a kind by its number, with a name's number and two texts
 abbrev pub kind_told : ℕ → ℕ → List ℕ → List ℕ → Option (Kind ℕ (List ℕ))
 kind_told k n s t =
-    cond (eqb k 0) (some root)
-    (cond (eqb k 1) (some (element n))
-    (cond (eqb k 2) (some (attribute n s))
-    (cond (eqb k 3) (some (text s))
-    (cond (eqb k 4) (some (comment s)) (cond (eqb k 5) (some (namespace s t)) (cond (eqb k 6) (some (instruction s t)) none))))))
+    cond (eqb k 0) (Some root)
+    (cond (eqb k 1) (Some (element n))
+    (cond (eqb k 2) (Some (attribute n s))
+    (cond (eqb k 3) (Some (text s))
+    (cond (eqb k 4) (Some (comment s)) (cond (eqb k 5) (Some (namespace s t)) (cond (eqb k 6) (Some (instruction s t)) None))))))
 
 abbrev pub as_kind : Telling
 as_kind out d mem =
@@ -70,7 +69,7 @@ as_kind out d mem =
 
 -- whether the number has a name, whose parts `oxml_namespace_bytes` and `oxml_local_bytes` show
 abbrev pub as_name : ℕ → Telling
-as_name n out d mem = name_is (cond (eqb (get_or out 0 0) 0) none (some (name (name_part d mem n 0) (name_part d mem n 1))))
+as_name n out d mem = name_is (cond (eqb (get_or out 0 0) 0) None (Some (name (name_part d mem n 0) (name_part d mem n 1))))
 
 -- `oxml_order_words` shows them
 abbrev pub as_order : Telling

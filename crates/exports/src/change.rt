@@ -3,10 +3,12 @@ ghost use Rattle.std.specs.Prelude.{[]};
 ghost use Rattle.model.specs.Calls.{set-text, set-attribute, declare-namespace};
 ghost use Rattle.exports.specs.Contract.{Exported, as_done, as_made};
 
-use encoding::answer::{give_done, give_made};
-use encoding::record::{Lent, lent_record};
+use encoding::answer::{give_done, give_made, refused};
+use encoding::record::lent_record;
+use model::Refusal;
 use records::handle::id_of;
 
+// Stays: the C interface has a function for each call; what they have in common is `lent_record` and what gives the answer.
 // The text of a text node. Rules out another node's text.
 pub fn oxml_set_text(
     document: &mut [u64],
@@ -17,14 +19,12 @@ pub fn oxml_set_text(
 ) -> u64
     ensures { Exported (set-text id text.now) 0 as_done document.old memory.old scratch.old [] result document.new memory.new scratch.new [] }
 {
-    match lent_record(&document[..], 0, 0) {
-        Lent::Short => 4,
-        Lent::Record(d) => {
-            let id = id_of(id);
-            let answer = changing::text::set_text(d, memory, scratch, id, text);
-            give_done(document, answer)
-        }
-    }
+    let Some(d) = lent_record(&document[..], 0, 0) else {
+        return refused(Refusal::BadBuffers);
+    };
+    let id = id_of(id);
+    let answer = changing::text::set_text(d, memory, scratch, id, text);
+    give_done(document, answer)
 }
 
 // An attribute of an element. Rules out a second attribute of the same name.
@@ -39,16 +39,14 @@ pub fn oxml_set_attribute(
 ) -> u64
     ensures { Exported (set-attribute element namespace.now local.now value.now) 0 as_done document.old memory.old scratch.old [] result document.new memory.new scratch.new [] }
 {
-    match lent_record(&document[..], 0, 0) {
-        Lent::Short => 4,
-        Lent::Record(d) => {
-            let id = id_of(element);
-            let answer = changing::attribute::set_attribute(
-                d, memory, scratch, id, namespace, local, value,
-            );
-            give_done(document, answer)
-        }
-    }
+    let Some(d) = lent_record(&document[..], 0, 0) else {
+        return refused(Refusal::BadBuffers);
+    };
+    let id = id_of(element);
+    let answer = changing::attribute::set_attribute(
+        d, memory, scratch, id, namespace, local, value,
+    );
+    give_done(document, answer)
 }
 
 // A namespace of an element. Rules out a new handle where the URI is replaced.
@@ -63,14 +61,10 @@ pub fn oxml_declare_namespace(
 ) -> u64
     ensures { Exported (declare-namespace element prefix.now uri.now) 1 as_made document.old memory.old scratch.old made.old result document.new memory.new scratch.new made.new }
 {
-    match lent_record(&document[..], made.len(), 1) {
-        Lent::Short => 4,
-        Lent::Record(d) => {
-            let id = id_of(element);
-            let answer = changing::namespace::declare_namespace(
-                d, memory, scratch, id, prefix, uri,
-            );
-            give_made(document, made, answer)
-        }
-    }
+    let Some(d) = lent_record(&document[..], made.len(), 1) else {
+        return refused(Refusal::BadBuffers);
+    };
+    let id = id_of(element);
+    let answer = changing::namespace::declare_namespace(d, memory, scratch, id, prefix, uri);
+    give_made(document, made, answer)
 }

@@ -3,10 +3,12 @@ ghost use Rattle.std.specs.Prelude.{[]};
 ghost use Rattle.model.specs.Calls.{reparent, insert-at};
 ghost use Rattle.exports.specs.Contract.{Exported, as_done};
 
-use encoding::answer::give_done;
-use encoding::record::{Lent, lent_record};
+use encoding::answer::{give_done, refused};
+use encoding::record::lent_record;
+use model::Refusal;
 use records::handle::id_of;
 
+// Stays: the C interface has a function for each call; what they have in common is `lent_record` and what gives the answer.
 // A node goes behind another's children. Rules out child and parent swapped.
 pub fn oxml_reparent(
     document: &mut [u64],
@@ -17,15 +19,13 @@ pub fn oxml_reparent(
 ) -> u64
     ensures { Exported (reparent child parent) 0 as_done document.old memory.old scratch.old [] result document.new memory.new scratch.new [] }
 {
-    match lent_record(&document[..], 0, 0) {
-        Lent::Short => 4,
-        Lent::Record(d) => {
-            let child_id = id_of(child);
-            let parent_id = id_of(parent);
-            let answer = moving::moves::reparent(d, memory, scratch, child_id, parent_id);
-            give_done(document, answer)
-        }
-    }
+    let Some(d) = lent_record(&document[..], 0, 0) else {
+        return refused(Refusal::BadBuffers);
+    };
+    let child_id = id_of(child);
+    let parent_id = id_of(parent);
+    let answer = moving::moves::reparent(d, memory, scratch, child_id, parent_id);
+    give_done(document, answer)
 }
 
 // A node goes among another's children. Rules out an index that is counted before the unlink.
@@ -39,20 +39,11 @@ pub fn oxml_insert_at(
 ) -> u64
     ensures { Exported (insert-at parent at child) 0 as_done document.old memory.old scratch.old [] result document.new memory.new scratch.new [] }
 {
-    match lent_record(&document[..], 0, 0) {
-        Lent::Short => 4,
-        Lent::Record(d) => {
-            let parent_id = id_of(parent);
-            let child_id = id_of(child);
-            let answer = moving::moves::insert_at(
-                d,
-                memory,
-                scratch,
-                parent_id,
-                at as usize,
-                child_id,
-            );
-            give_done(document, answer)
-        }
-    }
+    let Some(d) = lent_record(&document[..], 0, 0) else {
+        return refused(Refusal::BadBuffers);
+    };
+    let parent_id = id_of(parent);
+    let child_id = id_of(child);
+    let answer = moving::moves::insert_at(d, memory, scratch, parent_id, at as usize, child_id);
+    give_done(document, answer)
 }

@@ -1,37 +1,24 @@
 // The calls that copy words out of memory: how many there are is returned, and they are written where they fit.
-ghost use Rattle.std.specs.Prelude.{◌≡◌, ◌≤◌, length};
-ghost use Rattle.words.specs.Parts.{put};
+ghost use Rattle.std.specs.Prelude.{◌≡◌, length};
 ghost use Rattle.blocks.specs.Arena.{block};
 ghost use Rattle.layout.specs.Layout.{which_of};
 ghost use Rattle.reading.specs.Answers.{entries_shown, text_bytes, name_bytes, order_shown};
 ghost use Rattle.encoding.specs.Records.{document_of};
 ghost use Rattle.exports.specs.Contract.{slot_told, shown_to, entries_told, ExportedShow};
 
-use encoding::record::{Lent, lent_record};
+use crate::list::name_id;
+use encoding::record::lent_record;
 use layout::{Arena, Document};
+use names::NamePart;
 use records::Range;
 use records::decode::chars_of;
-use words::NameId;
-
-fn copy_words(words: &[u64], out: &mut [u64])
-    requires { length words.now ≤ length out.old }
-    ensures { out.new ≡ put 0 words.now out.old }
-{
-    let n = words.len();
-    let mut k = 0;
-    while k < n {
-        out[k] = words[k];
-        k += 1;
-    }
-}
 
 fn give(words: &[u64], out: &mut [u64]) -> u64
     ensures { (result ≡ length words.now) × (out.new ≡ shown_to words.now out.old) }
 {
     let n = words.len();
     if n <= out.len() {
-        copy_words(words, out);
-        return n as u64;
+        out[..n].copy_from_slice(words);
     }
     n as u64
 }
@@ -40,11 +27,8 @@ fn give(words: &[u64], out: &mut [u64]) -> u64
 fn show_block(d: Document, memory: &[u64], arena: Arena, start: u64, len: u64) -> &[u64]
     ensures { result.now ≡ entries_shown d memory.now (which_of arena) (block start len) }
 {
-    if start >= 4294967296 {
-        return &memory[..0];
-    }
-    if len >= 4294967296 {
-        return &memory[..0];
+    if start >= 4294967296 || len >= 4294967296 {
+        return &[];
     }
     let range = Range {
         start: start as u32,
@@ -60,7 +44,7 @@ fn show_entries(d: Document, memory: &[u64], arena: u64, start: u64, len: u64) -
         0 => show_block(d, memory, Arena::Children, start, len),
         1 => show_block(d, memory, Arena::Attributes, start, len),
         2 => show_block(d, memory, Arena::Namespaces, start, len),
-        _ => &memory[..0],
+        _ => &[],
     }
 }
 
@@ -68,29 +52,12 @@ fn show_text(d: Document, memory: &[u64], text: u64) -> &[u64]
     ensures { result.now ≡ text_bytes d memory.now (slot_told text) }
 {
     if text > 4294967296 {
-        return &memory[..0];
+        return &[];
     }
     reading::text::text_bytes(d, memory, chars_of(text))
 }
 
-fn show_namespace(d: Document, memory: &[u64], number: u64) -> &[u64]
-    ensures { result.now ≡ name_bytes d memory.now number 0 }
-{
-    if number >= 4294967296 {
-        return &memory[..0];
-    }
-    reading::name::namespace_bytes(d, memory, NameId(number as u32))
-}
-
-fn show_local(d: Document, memory: &[u64], number: u64) -> &[u64]
-    ensures { result.now ≡ name_bytes d memory.now number 1 }
-{
-    if number >= 4294967296 {
-        return &memory[..0];
-    }
-    reading::name::local_bytes(d, memory, NameId(number as u32))
-}
-
+// Stays: the C interface has a function for each call; what they have in common is `lent_record` and what gives the answer.
 // The handles of a block of arena 0, 1 or 2. Rules out those of another arena.
 pub fn oxml_entries(
     document: &[u64],
@@ -102,48 +69,54 @@ pub fn oxml_entries(
 ) -> u64
     ensures { ExportedShow document.now (entries_told arena (block start len) (document_of document.now) memory.now) out.old result out.new }
 {
-    match lent_record(document, 0, 0) {
-        Lent::Short => 0,
-        Lent::Record(d) => give(show_entries(d, memory, arena, start, len), out),
-    }
+    let Some(d) = lent_record(document, 0, 0) else {
+        return 0;
+    };
+    give(show_entries(d, memory, arena, start, len), out)
 }
 
 // The bytes of a text that `oxml_kind` told, one a word. Rules out those of another.
 pub fn oxml_text_bytes(document: &[u64], memory: &[u64], text: u64, out: &mut [u64]) -> u64
     ensures { ExportedShow document.now (text_bytes (document_of document.now) memory.now (slot_told text)) out.old result out.new }
 {
-    match lent_record(document, 0, 0) {
-        Lent::Short => 0,
-        Lent::Record(d) => give(show_text(d, memory, text), out),
-    }
+    let Some(d) = lent_record(document, 0, 0) else {
+        return 0;
+    };
+    give(show_text(d, memory, text), out)
 }
 
 // The namespace of a name, one byte a word. Rules out its local part.
 pub fn oxml_namespace_bytes(document: &[u64], memory: &[u64], number: u64, out: &mut [u64]) -> u64
     ensures { ExportedShow document.now (name_bytes (document_of document.now) memory.now number 0) out.old result out.new }
 {
-    match lent_record(document, 0, 0) {
-        Lent::Short => 0,
-        Lent::Record(d) => give(show_namespace(d, memory, number), out),
-    }
+    let Some(d) = lent_record(document, 0, 0) else {
+        return 0;
+    };
+    give(
+        reading::name::name_bytes(d, memory, name_id(number), NamePart::Namespace),
+        out,
+    )
 }
 
 // The local part of a name, one byte a word. Rules out its namespace.
 pub fn oxml_local_bytes(document: &[u64], memory: &[u64], number: u64, out: &mut [u64]) -> u64
     ensures { ExportedShow document.now (name_bytes (document_of document.now) memory.now number 1) out.old result out.new }
 {
-    match lent_record(document, 0, 0) {
-        Lent::Short => 0,
-        Lent::Record(d) => give(show_local(d, memory, number), out),
-    }
+    let Some(d) = lent_record(document, 0, 0) else {
+        return 0;
+    };
+    give(
+        reading::name::name_bytes(d, memory, name_id(number), NamePart::Local),
+        out,
+    )
 }
 
 // The order words of the slots made. Rules out those of slots that were never made.
 pub fn oxml_order_words(document: &[u64], memory: &[u64], out: &mut [u64]) -> u64
     ensures { ExportedShow document.now (order_shown (document_of document.now) memory.now) out.old result out.new }
 {
-    match lent_record(document, 0, 0) {
-        Lent::Short => 0,
-        Lent::Record(d) => give(reading::order::order_words(d, memory), out),
-    }
+    let Some(d) = lent_record(document, 0, 0) else {
+        return 0;
+    };
+    give(reading::order::order_words(d, memory), out)
 }

@@ -1,23 +1,24 @@
 // The nodes below a node, in document order, itself and all attributes and namespaces left out.
 ghost use Rattle.exports.specs.Walks.{ExportedWalk, ExportedNext, ExportedBelow};
 
+use encoding::answer::refused;
 use encoding::numbers::give_count;
 use encoding::positions::{give_next, give_start, position_of};
-use encoding::record::{Lent, lent_record};
+use encoding::record::lent_record;
+use model::Refusal;
 use records::handle::id_of;
 
+// Stays: the C interface has a function for each call; what they have in common is `lent_record` and what gives the answer.
 // A walk below the zone begins: seven words go to position. Rules out a refusal of a handle that is stale.
 pub fn oxml_descendants_of(document: &[u64], memory: &[u64], zone: u64, position: &mut [u64]) -> u64
     ensures { ExportedWalk zone document.now memory.now position.old result position.new }
 {
-    match lent_record(document, position.len(), 7) {
-        Lent::Short => 4,
-        Lent::Record(d) => {
-            let id = id_of(zone);
-            let answer = descendants::walk::descendants_of(d, memory, id);
-            give_start(position, answer)
-        }
-    }
+    let Some(d) = lent_record(document, position.len(), 7) else {
+        return refused(Refusal::BadBuffers);
+    };
+    let id = id_of(zone);
+    let answer = descendants::walk::descendants_of(d, memory, id);
+    give_start(position, answer)
 }
 
 // 1 and the next node of a walk, at which position then is; 0 and 0 at the end. Rules out a position that moves at the end.
@@ -32,14 +33,12 @@ pub fn oxml_walk_next(
     if answer.len() < 2 {
         return 4;
     }
-    match lent_record(document, position.len(), 7) {
-        Lent::Short => 4,
-        Lent::Record(d) => {
-            let at = position_of(&position[..]);
-            let found = descendants::walker::next_held(d, memory, at);
-            give_next(position, answer, found)
-        }
-    }
+    let Some(d) = lent_record(document, position.len(), 7) else {
+        return refused(Refusal::BadBuffers);
+    };
+    let at = position_of(&position[..]);
+    let found = descendants::walker::next_held(d, memory, at);
+    give_next(position, answer, found)
 }
 
 // The whole walk: the handles go to list, which holds as many as the node limit, and their count to answer. Rules out a word written past the last handle.
@@ -52,12 +51,10 @@ pub fn oxml_list_below(
 ) -> u64
     ensures { ExportedBelow zone document.now memory.now list.old answer.old result list.new answer.new }
 {
-    match lent_record(document, answer.len(), 1) {
-        Lent::Short => 4,
-        Lent::Record(d) => {
-            let id = id_of(zone);
-            let written = descendants::list::list_below(d, memory, id, list);
-            give_count(answer, written)
-        }
-    }
+    let Some(d) = lent_record(document, answer.len(), 1) else {
+        return refused(Refusal::BadBuffers);
+    };
+    let id = id_of(zone);
+    let written = descendants::list::list_below(d, memory, id, list);
+    give_count(answer, written)
 }

@@ -1,4 +1,5 @@
 // The static library for programs in C and Rust: each export is the call of its name in `exports`.
+// Stays: the C interface needs it: rt builds a crate as a library or as a static library, a library exports nothing, and no crate may use a static library, as `examples` uses `exports`.
 #![tactic(auto)]
 
 pub mod append;

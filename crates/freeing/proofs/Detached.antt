@@ -1,8 +1,9 @@
 -- The document once a node was taken off its parent: what its rules still say.
 -- Assumes nothing.
+use Rattle.std.proofs.lemmas.Option.{none-some, same_Some}
+use Rattle.std.specs.Prelude.{Option, None, Some}
 use mathlib.Core.Path.{◌≡◌, refl, sym, ap, ◌∙◌, subst}
 use mathlib.Core.Bool.{Bool, true, false, cond, true≢false}
-use mathlib.Core.Option.{Option, none, some, none-ne-some, some-injective}
 use mathlib.Core.List.{List, Memᴰ}
 use Prim.Native.Nat.{ℕ, ◌≤◌, ◌<◌}
 use native.Mathlib.Omega.{arith}
@@ -32,7 +33,7 @@ module _ (D : Doc) (R : Rules D) (shape : Shape D) (narrow : length D.gens ≤ 4
   -- with other lists, and h without a parent
   abbrev off : (Which → List Block) → (Which → Arena) → Doc
   off ranges arenas =
-      let nodes = change_nodes D D.kinds (set D.parents (handle_index h) none) ranges in
+      let nodes = change_nodes D D.kinds (set D.parents (handle_index h) None) ranges in
       change_current (change_arenas nodes arenas) false
 
   -- h is in no list any more, and every other handle is where it was
@@ -46,11 +47,11 @@ module _ (D : Doc) (R : Rules D) (shape : Shape D) (narrow : length D.gens ≤ 4
 
   -- ---- the parents
 
-  top-none : get_or (set D.parents (handle_index h) none) (handle_index h) none ≡ none
-  top-none = get_or-set_same D.parents (handle_index h) none none (omega (arith, live-below D (handle_index h) lives, shape.parents))
+  top-none : get_or (set D.parents (handle_index h) None) (handle_index h) None ≡ None
+  top-none = get_or-set_same D.parents (handle_index h) None None (omega (arith, live-below D (handle_index h) lives, shape.parents))
 
-  parent-other : (i : ℕ) → (i ≡ handle_index h → ⊥) → get_or (set D.parents (handle_index h) none) i none ≡ parent_in D i
-  parent-other i ne = get_or-set_other D.parents (handle_index h) i none none ne
+  parent-other : (i : ℕ) → (i ≡ handle_index h → ⊥) → get_or (set D.parents (handle_index h) None) i None ≡ parent_in D i
+  parent-other i ne = get_or-set_other D.parents (handle_index h) i None None ne
 
   -- ---- rule 4
 
@@ -61,16 +62,16 @@ module _ (D : Doc) (R : Rules D) (shape : Shape D) (narrow : length D.gens ≤ 4
     entries-off : Entries (off ranges arenas)
     entries-off = record { one = λ i p li e. one i p li e (ℕ_discrete i (handle_index h)); no_other = λ w i y li m. other w i y li m (ℕ_discrete y h) }
       where
-        one : (i p : ℕ) → live_slot D i ≡ true → parent_in E i ≡ some p → Dec (i ≡ handle_index h) → count_of (eqb (handle_at D i)) (list_at E (which_of (kind_in D i)) p) ≡ 1
-        one i p li e (yes q) = absurd (none-ne-some p (sym (ap (parent_in E) q ∙ top-none) ∙ e))
+        one : (i p : ℕ) → live_slot D i ≡ true → parent_in E i ≡ Some p → Dec (i ≡ handle_index h) → count_of (eqb (handle_at D i)) (list_at E (which_of (kind_in D i)) p) ≡ 1
+        one i p li e (yes q) = absurd (none-some p (sym (ap (parent_in E) q ∙ top-none) ∙ e))
         one i p li e (no ne) =
-            let f : parent_in D i ≡ some p = sym (parent-other i ne) ∙ e in
+            let f : parent_in D i ≡ Some p = sym (parent-other i ne) ∙ e in
             let lp = live_of D p (R.parents.owner i p li f).0 in
             let different : handle_at D i ≡ h → ⊥ = λ q. ne (sym (handle_index-word_of (record { index = i; generation = generation_at D i }) (omega (arith, live-below D i li))) ∙ ap handle_index q) in
             o.others (which_of (kind_in D i)) (handle_index p) (handle_at D i) lp different ∙ R.entries.one i p li f
 
         other : (w : Which) (i y : ℕ) → live_slot D i ≡ true → Memᴰ y (list_in E w i) → Dec (y ≡ h)
-            → (resolves D y ≡ true) × (parent_at E y ≡ some (handle_at D i)) × (which_of (kind_at D y) ≡ w)
+            → (resolves D y ≡ true) × (parent_at E y ≡ Some (handle_at D i)) × (which_of (kind_at D y) ≡ w)
         other w i y li m (yes e) =
             let z = subst (λ (x : ℕ). 0 < count_of (eqb x) (list_in E w i)) e (mem-count y (list_in E w i) m) in
             absurd (omega (arith, o.gone w i li))
@@ -107,15 +108,15 @@ module _ (D : Doc) (R : Rules D) (shape : Shape D) (narrow : length D.gens ≤ 4
       go (no b) = omega arith
 
   -- it had no parent
-  stays : parent_at D h ≡ none → Off D.ranges D.arenas
+  stays : parent_at D h ≡ None → Off D.ranges D.arenas
   stays e = record {
-    gone = λ w i li. absent w i (λ m. none-ne-some (handle_at D i) (sym e ∙ (R.entries.no_other w i h li m).1));
+    gone = λ w i li. absent w i (λ m. none-some (handle_at D i) (sym e ∙ (R.entries.no_other w i h li m).1));
     others = λ w i y li ne. refl;
     inside = live_inside;
   }
 
   -- it had one
-  module _ (p : ℕ) (e : parent_at D h ≡ some p) where
+  module _ (p : ℕ) (e : parent_at D h ≡ Some p) where
     abbrev v : Which
     v = which_of (kind_at D h)
 
@@ -165,7 +166,7 @@ module _ (D : Doc) (R : Rules D) (shape : Shape D) (narrow : length D.gens ≤ 4
         absent w i (λ m.
         let q = R.entries.no_other w i h li m in
         ne (sym q.2) (sym (handle_index-word_of (record { index = i; generation = generation_at D i }) (omega (arith, live-below D i li)))
-        ∙ ap handle_index (sym (some-injective p (handle_at D i) (sym e ∙ q.1)))))
+        ∙ ap handle_index (sym (same_Some p (handle_at D i) (sym e ∙ q.1)))))
 
     there-once : count_of (eqb h) (list_in D v j) ≡ 1
     there-once = ap (λ (x : ℕ). count_of (eqb x) (list_in D v j)) (sym (handle-of D h lh)) ∙ R.entries.one (handle_index h) p lives e
@@ -211,6 +212,6 @@ module _ (D : Doc) (R : Rules D) (shape : Shape D) (narrow : length D.gens ≤ 4
   unfolding unlink set_parent
   unhooked-freeable = go (parent_at D h) refl
     where
-      go : (q : Option ℕ) → parent_at D h ≡ q → SubtreeFreeable (set_parent (unlink_from q D h) h none) h
-      go none e = off-freeable D.ranges D.arenas (stays e)
-      go (some p) e = off-freeable (C p e).ranges (C p e).arenas (taken p e)
+      go : (q : Option ℕ) → parent_at D h ≡ q → SubtreeFreeable (set_parent (unlink_from q D h) h None) h
+      go None e = off-freeable D.ranges D.arenas (stays e)
+      go (Some p) e = off-freeable (C p e).ranges (C p e).arenas (taken p e)

@@ -1,5 +1,7 @@
 -- A slot freed: its generation and the free stack written, and the document then.
 -- Assumes nothing.
+use Rattle.records.specs.declared.Node.{Node}
+use Rattle.std.specs.Prelude.{Option}
 use mathlib.Core.Path.{◌≡◌, refl, sym, ap, subst, ◌∙◌}
 use mathlib.Core.Bool.{true, false}
 use mathlib.Core.List.{List, ◌∷◌, reverse}
@@ -14,7 +16,6 @@ use Rattle.words.proofs.Lists.{length-tabulate, get_or-tabulate, tabulate-same, 
 use Rattle.blocks.specs.Arena.{arena_of}
 use Rattle.slots.specs.Regions.{slots_words, generation_at, free_at, node_at, order_at, put_generation, put_free}
 use Rattle.slots.specs.Slots.{freed_words}
-use Rattle.records.specs.declared.Loaded.{Loaded}
 use Rattle.slots.proofs.Regions.{length-put_generation, length-put_free, generation_at-put_generation, generation_at-put_generation-other, free_at-put_generation, record_at-put_generation, order_at-put_generation, free_at-put_free, free_at-put_free-other, generation_at-put_free, record_at-put_free, order_at-put_free, node_at-record_at}
 use Rattle.model.specs.Kinds.{Which, children, attributes, namespaces, texts_of}
 use Rattle.model.specs.Doc.{Doc, change_slots, change_nodes, change_arenas, change_order, change_fits, kind_in}
@@ -142,7 +143,7 @@ module _ (d : Document) (mem : List ℕ) (ok : memory_ok d (length mem) ≡ true
       lengths-in : (v : Which) → used_of (slot_counts d.counts d.counts.slots (F + 1)) v ≤ entries_of d.limits v
       lengths-in v = omega (arith, used-same v, (counts-fit (limits_of d.limits) d.counts f.counts).used v)
 
-  column-same : {A : Type 0} (h : Loaded → A) → tabulate (λ t. h (loaded_at N U t)) (slots_made d) ≡ tabulate (λ t. h (loaded_at N W t)) (slots_made d)
+  column-same : {A : Type 0} (h : Option Node → A) → tabulate (λ t. h (loaded_at N U t)) (slots_made d) ≡ tabulate (λ t. h (loaded_at N W t)) (slots_made d)
   column-same h = tabulate-same (λ t. h (loaded_at N U t)) (λ t. h (loaded_at N W t)) (slots_made d) (λ t b. ap h (loaded-same N W long-w F s fb sb gb t (omega arith)))
 
   decode-freed : decode_with (pool_in d mem) (names_in d mem) (lengths_add d mem) (with_slots d d.counts.slots (F + 1)) (put_slots U mem) ≡ free_slot (decode d mem) s

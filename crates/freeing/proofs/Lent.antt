@@ -1,8 +1,8 @@
 -- The words of the pool with a slot pushed, or with the bytes given back: the document then.
 -- Assumes nothing.
+use Rattle.std.specs.Prelude.{Some}
 use mathlib.Core.Path.{◌≡◌, sym, ap, subst, ◌∙◌}
 use mathlib.Core.Bool.{true}
-use mathlib.Core.Option.{some}
 use mathlib.Core.List.{List, [], ◌∷◌}
 use Prim.Native.Nat.{ℕ, ◌≤◌, ◌<◌}
 use native.Mathlib.Omega.{arith}
@@ -29,7 +29,7 @@ use Rattle.freeing.specs.Asked.{Releasable, Reclaimable}
 
 -- ---- a text slot pushed
 
-module _ (d : Document) (mem : List ℕ) (ok : memory_ok d (length mem) ≡ true) (s : ℕ) (r : Releasable (decode d mem) (some s ∷ [])) where
+module _ (d : Document) (mem : List ℕ) (ok : memory_ok d (length mem) ≡ true) (s : ℕ) (r : Releasable (decode d mem) (Some s ∷ [])) where
   held : Counted (text_limits d) (text_counts d) (texts_part d mem)
   held = texts-counted d mem ok r.counts r.lengths
 
@@ -37,9 +37,9 @@ module _ (d : Document) (mem : List ℕ) (ok : memory_ok d (length mem) ≡ true
   slot-pushable = (ok, held, omega (arith, r.room, ap (λ (p : Pool). length p.free) (pool-held d mem held), pool-free (text_limits d) (text_counts d) (texts_part d mem) held))
 
   pub slot_pushed : (mem' : List ℕ) (t : TextCounts) → PushedTo (text_limits d) (text_counts d) (texts_part d mem) (texts_part d mem') s t → mem' ≡ put_texts d (texts_part d mem') mem
-      → (after : Document) → after ≡ with_texts d t → Step d mem after mem' (set_pool (decode d mem) (pushed_all (decode d mem).pool (some s ∷ [])))
+      → (after : Document) → after ≡ with_texts d t → Step d mem after mem' (set_pool (decode d mem) (pushed_all (decode d mem).pool (Some s ∷ [])))
   slot_pushed mem' t g em after ea =
-      texts-changed d mem ok r.counts r.lengths mem' t g.counted em (pushed (decode d mem).pool (some s)) (g.pool ∙ ap (λ (p : Pool). pushed p (some s)) (sym (pool-held d mem held))) after ea
+      texts-changed d mem ok r.counts r.lengths mem' t g.counted em (pushed (decode d mem).pool (Some s)) (g.pool ∙ ap (λ (p : Pool). pushed p (Some s)) (sym (pool-held d mem held))) after ea
 
 -- ---- the bytes given back
 

@@ -1,7 +1,7 @@
 -- Text slots pushed on the free text list one after the other, those of a node among them, and the bytes given back after.
 -- Assumes nothing.
-use mathlib.Core.Path.{◌≡◌, refl, sym, ap, subst, ◌∙◌}
-use mathlib.Core.Option.{Option, none, some}
+use Rattle.std.specs.Prelude.{Option, None, Some}
+use mathlib.Core.Path.{◌≡◌, refl, sym, ap, ap₂, subst, ◌∙◌}
 use mathlib.Core.List.{List, [], ◌∷◌, ◌++◌}
 use Prim.Native.Nat.{ℕ, ◌+◌, ◌<◌}
 use native.Mathlib.Omega.{arith}
@@ -10,12 +10,9 @@ use lib.Dec.{eqb}
 use Rattle.words.specs.Lists.{count_of}
 use Rattle.texts.specs.Pool.{Pool, pushed, reclaimed}
 use Rattle.releasing.proofs.Released.{reclaimed-pushed}
-use Rattle.records.specs.declared.Chars.{Chars}
-use Rattle.records.specs.declared.Chars.TheVariants.{Empty, Expanded}
+use Rattle.records.specs.Records.{first_text, second_text}
 use Rattle.words.specs.declared.TextSlot.{TextSlot}
 use Rattle.records.specs.declared.Node.{Node}
-use Rattle.records.specs.declared.Loaded.{Loaded}
-use Rattle.records.specs.declared.Loaded.TheVariants.{Found, NoNode}
 use Rattle.records.specs.declared.NodeData.{NodeData}
 use Rattle.records.specs.declared.NodeData.TheVariants as given
 use Rattle.model.specs.Kinds.{Kind, root, texts_of}
@@ -29,8 +26,7 @@ use Rattle.memory.specs.Step.{Step}
 use Rattle.memory.proofs.Columns.{kind-column, kind-found}
 use Rattle.edits.specs.Pooled.{set_pool}
 use Rattle.edits.proofs.Composed.{step-none, step-as, step-next}
-use Rattle.freeing.specs.declared.release.HeldTexts.{HeldTexts}
-use Rattle.freeing.specs.Freed.{texts_in, pushed_all}
+use Rattle.freeing.specs.Freed.{pushed_all}
 use Rattle.freeing.specs.Asked.{Releasable}
 
 pub pushed_all-append : (a b : List (Option ℕ)) (p : Pool) → pushed_all p (a ++ b) ≡ pushed_all (pushed_all p a) b
@@ -40,22 +36,22 @@ pushed_all-append (t ∷ a) b p = pushed_all-append a b (pushed p t)
 pub pushed_all-free : (l : List (Option ℕ)) (p : Pool) → length (pushed_all p l).free ≡ length p.free + length (slots_held l)
 unfolding pushed
 pushed_all-free [] p = omega arith
-pushed_all-free (none ∷ l) p = pushed_all-free l p
-pushed_all-free (some s ∷ l) p = pushed_all-free l (pushed p (some s)) ∙ omega arith
+pushed_all-free (None ∷ l) p = pushed_all-free l p
+pushed_all-free (Some s ∷ l) p = pushed_all-free l (pushed p (Some s)) ∙ omega arith
 
 -- no text changes
 pub pushed_all-texts : (l : List (Option ℕ)) (p : Pool) → (pushed_all p l).texts ≡ p.texts
 unfolding pushed
 pushed_all-texts [] p = refl
-pushed_all-texts (none ∷ l) p = pushed_all-texts l p
-pushed_all-texts (some s ∷ l) p = pushed_all-texts l (pushed p (some s))
+pushed_all-texts (None ∷ l) p = pushed_all-texts l p
+pushed_all-texts (Some s ∷ l) p = pushed_all-texts l (pushed p (Some s))
 
 -- what stands on the free text list
 pub pushed_all-count : (l : List (Option ℕ)) (p : Pool) (x : ℕ) → count_of (eqb x) (pushed_all p l).free ≡ count_of (eqb x) (slots_held l) + count_of (eqb x) p.free
 unfolding pushed
 pushed_all-count [] p x = omega arith
-pushed_all-count (none ∷ l) p x = pushed_all-count l p x
-pushed_all-count (some s ∷ l) p x = pushed_all-count l (pushed p (some s)) x ∙ omega arith
+pushed_all-count (None ∷ l) p x = pushed_all-count l p x
+pushed_all-count (Some s ∷ l) p x = pushed_all-count l (pushed p (Some s)) x ∙ omega arith
 
 -- the bytes given back after all are pushed: each was released in turn
 pub reclaimed-all : (l : List (Option ℕ)) (p : Pool) → reclaimed (pushed_all p l) ≡ released_all (reclaimed p) l
@@ -103,31 +99,32 @@ module _ (D : Doc) where
 
 -- ---- the text of a field
 
-module _ (d : Document) (mem : List ℕ) (field : Chars) where
-  pub nothing-pushed : field ≡ Empty → Step d mem d mem (set_pool (decode d mem) (pushed_all (decode d mem).pool (slot_of field ∷ [])))
+module _ (d : Document) (mem : List ℕ) (field : Option TextSlot) where
+  pub nothing-pushed : field ≡ None → Step d mem d mem (set_pool (decode d mem) (pushed_all (decode d mem).pool (slot_of field ∷ [])))
   unfolding pushed
   nothing-pushed e =
       step-none d mem (set_pool (decode d mem) (pushed_all (decode d mem).pool (slot_of field ∷ [])))
-      (sym (none-pushed (decode d mem)) ∙ ap (λ (f : Chars). set_pool (decode d mem) (pushed_all (decode d mem).pool (slot_of f ∷ []))) (sym e))
+      (sym (none-pushed (decode d mem)) ∙ ap (λ (f : Option TextSlot). set_pool (decode d mem) (pushed_all (decode d mem).pool (slot_of f ∷ []))) (sym e))
 
-  module _ (t : TextSlot) (e : field ≡ Expanded t) where
-    pub field-releasable : Releasable (decode d mem) (slot_of field ∷ []) → Releasable (decode d mem) (some t.0 ∷ [])
-    field-releasable r = subst (λ (f : Chars). Releasable (decode d mem) (slot_of f ∷ [])) e r
+  module _ (t : TextSlot) (e : field ≡ Some t) where
+    pub field-releasable : Releasable (decode d mem) (slot_of field ∷ []) → Releasable (decode d mem) (Some t.0 ∷ [])
+    field-releasable r = subst (λ (f : Option TextSlot). Releasable (decode d mem) (slot_of f ∷ [])) e r
 
-    pub field-pushed : (r : Document) (mem' : List ℕ) → Step d mem r mem' (set_pool (decode d mem) (pushed_all (decode d mem).pool (some t.0 ∷ [])))
+    pub field-pushed : (r : Document) (mem' : List ℕ) → Step d mem r mem' (set_pool (decode d mem) (pushed_all (decode d mem).pool (Some t.0 ∷ [])))
         → Step d mem r mem' (set_pool (decode d mem) (pushed_all (decode d mem).pool (slot_of field ∷ [])))
-    field-pushed r mem' s = subst (λ (f : Chars). Step d mem r mem' (set_pool (decode d mem) (pushed_all (decode d mem).pool (slot_of f ∷ [])))) (sym e) s
+    field-pushed r mem' s = subst (λ (f : Option TextSlot). Step d mem r mem' (set_pool (decode d mem) (pushed_all (decode d mem).pool (slot_of f ∷ [])))) (sym e) s
 
 -- ---- the texts of a node
 
-abbrev pub fields_of : HeldTexts → List (Option ℕ)
-fields_of h = slot_of h.first ∷ (slot_of h.second ∷ [])
+-- of two fields; one that a node does not have is empty
+abbrev pub fields_of : Option TextSlot → Option TextSlot → List (Option ℕ)
+fields_of first second = slot_of first ∷ (slot_of second ∷ [])
 
-one-held : (t : Option ℕ) → slots_held (t ∷ (none ∷ [])) ≡ slots_held (t ∷ [])
-one-held none = refl
-one-held (some s) = refl
+one-held : (t : Option ℕ) → slots_held (t ∷ (None ∷ [])) ≡ slots_held (t ∷ [])
+one-held None = refl
+one-held (Some s) = refl
 
-fields-held : (m : NodeData) → slots_held (fields_of (texts_in m)) ≡ slots_held (texts_of (kind_of m))
+fields-held : (m : NodeData) → slots_held (fields_of (first_text m) (second_text m)) ≡ slots_held (texts_of (kind_of m))
 fields-held given.Root = refl
 fields-held (given.Element n a s) = refl
 fields-held (given.Attr n v) = one-held (slot_of v)
@@ -136,7 +133,7 @@ fields-held (given.Comment v) = one-held (slot_of v)
 fields-held (given.Namespace p u) = refl
 fields-held (given.ProcessingInstruction t c) = refl
 
-fields-pushed : (p : Pool) (m : NodeData) → pushed_all p (fields_of (texts_in m)) ≡ pushed_all p (texts_of (kind_of m))
+fields-pushed : (p : Pool) (m : NodeData) → pushed_all p (fields_of (first_text m) (second_text m)) ≡ pushed_all p (texts_of (kind_of m))
 unfolding pushed
 fields-pushed p given.Root = refl
 fields-pushed p (given.Element n a s) = refl
@@ -146,35 +143,35 @@ fields-pushed p (given.Comment v) = refl
 fields-pushed p (given.Namespace q u) = refl
 fields-pushed p (given.ProcessingInstruction t c) = refl
 
-module _ (d : Document) (mem : List ℕ) (m : NodeData) (r : Releasable (decode d mem) (texts_of (kind_of m))) (held : HeldTexts) (e : held ≡ texts_in m) where
+module _ (d : Document) (mem : List ℕ) (m : NodeData) (r : Releasable (decode d mem) (texts_of (kind_of m))) (first second : Option TextSlot) (e : first ≡ first_text m) (f : second ≡ second_text m) where
   abbrev D : Doc
   D = decode d mem
 
-  both : Releasable (decode d mem) (fields_of held)
-  both = releasable-same (decode d mem) (texts_of (kind_of m)) (fields_of held) (sym (ap (λ (h : HeldTexts). slots_held (fields_of h)) e ∙ fields-held m)) r
+  both : Releasable (decode d mem) (fields_of first second)
+  both = releasable-same (decode d mem) (texts_of (kind_of m)) (fields_of first second) (sym (ap₂ (λ (a b : Option TextSlot). slots_held (fields_of a b)) e f ∙ fields-held m)) r
 
-  pub first-releasable : Releasable (decode d mem) (slot_of held.first ∷ [])
-  first-releasable = releasable-first (decode d mem) (slot_of held.first ∷ []) (slot_of held.second ∷ []) both
+  pub first-releasable : Releasable (decode d mem) (slot_of first ∷ [])
+  first-releasable = releasable-first (decode d mem) (slot_of first ∷ []) (slot_of second ∷ []) both
 
-  module _ (d₁ : Document) (mem₁ : List ℕ) (s : Step d mem d₁ mem₁ (set_pool (decode d mem) (pushed_all (decode d mem).pool (slot_of held.first ∷ [])))) where
-    pub second-releasable : Releasable (decode d₁ mem₁) (slot_of held.second ∷ [])
+  module _ (d₁ : Document) (mem₁ : List ℕ) (s : Step d mem d₁ mem₁ (set_pool (decode d mem) (pushed_all (decode d mem).pool (slot_of first ∷ [])))) where
+    pub second-releasable : Releasable (decode d₁ mem₁) (slot_of second ∷ [])
     second-releasable =
-        subst (λ (x : Doc). Releasable x (slot_of held.second ∷ [])) (sym s.document)
-        (releasable-next (decode d mem) (slot_of held.first ∷ []) (slot_of held.second ∷ []) both)
+        subst (λ (x : Doc). Releasable x (slot_of second ∷ [])) (sym s.document)
+        (releasable-next (decode d mem) (slot_of first ∷ []) (slot_of second ∷ []) both)
 
-    pub data-pushed : (d₂ : Document) (mem₂ : List ℕ) → Step d₁ mem₁ d₂ mem₂ (set_pool (decode d₁ mem₁) (pushed_all (decode d₁ mem₁).pool (slot_of held.second ∷ [])))
+    pub data-pushed : (d₂ : Document) (mem₂ : List ℕ) → Step d₁ mem₁ d₂ mem₂ (set_pool (decode d₁ mem₁) (pushed_all (decode d₁ mem₁).pool (slot_of second ∷ [])))
         → Step d mem d₂ mem₂ (set_pool (decode d mem) (pushed_all (decode d mem).pool (texts_of (kind_of m))))
     data-pushed d₂ mem₂ t =
-        let E = set_pool D (pushed_all D.pool (slot_of held.first ∷ [])) in
-        step-as d mem d₂ mem₂ (set_pool E (pushed_all E.pool (slot_of held.second ∷ []))) (set_pool D (pushed_all D.pool (texts_of (kind_of m))))
-        (step-next d mem d₁ mem₁ E s (λ (x : Doc). set_pool x (pushed_all x.pool (slot_of held.second ∷ []))) d₂ mem₂ t)
-        (pushed-next D (slot_of held.first ∷ []) (slot_of held.second ∷ [])
-        ∙ ap (λ (h : HeldTexts). set_pool D (pushed_all D.pool (fields_of h))) e
+        let E = set_pool D (pushed_all D.pool (slot_of first ∷ [])) in
+        step-as d mem d₂ mem₂ (set_pool E (pushed_all E.pool (slot_of second ∷ []))) (set_pool D (pushed_all D.pool (texts_of (kind_of m))))
+        (step-next d mem d₁ mem₁ E s (λ (x : Doc). set_pool x (pushed_all x.pool (slot_of second ∷ []))) d₂ mem₂ t)
+        (pushed-next D (slot_of first ∷ []) (slot_of second ∷ [])
+        ∙ ap₂ (λ (a b : Option TextSlot). set_pool D (pushed_all D.pool (fields_of a b))) e f
         ∙ ap (set_pool D) (fields-pushed D.pool m))
 
 -- the texts of the node in a slot
-module _ (d : Document) (mem : List ℕ) (s : ℕ) (b : s < slots_made d) (l : Loaded) (e : l ≡ loaded_at d.limits.nodes (slots_part d mem) s) where
-  module _ (m : Node) (f : l ≡ Found m) where
+module _ (d : Document) (mem : List ℕ) (s : ℕ) (b : s < slots_made d) (l : Option Node) (e : l ≡ loaded_at d.limits.nodes (slots_part d mem) s) where
+  module _ (m : Node) (f : l ≡ Some m) where
     kind-is : kind_in (decode d mem) s ≡ kind_of m.«data»
     kind-is = kind-found (pool_in d mem) (names_in d mem) (lengths_add d mem) d mem s b m (sym e ∙ f)
 
@@ -185,7 +182,7 @@ module _ (d : Document) (mem : List ℕ) (s : ℕ) (b : s < slots_made d) (l : L
         → Step d mem r mem' (set_pool (decode d mem) (pushed_all (decode d mem).pool (texts_of (kind_in (decode d mem) s))))
     node_pushed r mem' t = subst (λ (k : Kind ℕ (Option ℕ)). Step d mem r mem' (set_pool (decode d mem) (pushed_all (decode d mem).pool (texts_of k)))) (sym kind-is) t
 
-  pub no-node-pushed : l ≡ NoNode → Step d mem d mem (set_pool (decode d mem) (pushed_all (decode d mem).pool (texts_of (kind_in (decode d mem) s))))
+  pub no-node-pushed : l ≡ None → Step d mem d mem (set_pool (decode d mem) (pushed_all (decode d mem).pool (texts_of (kind_in (decode d mem) s))))
   no-node-pushed f =
       let k : kind_in (decode d mem) s ≡ root =
       ap (λ (x : Option (Kind ℕ (Option ℕ))). or_else root x) (kind-column (pool_in d mem) (names_in d mem) (lengths_add d mem) d mem s b ∙ ap kind_loaded (sym e ∙ f)) in

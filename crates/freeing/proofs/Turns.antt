@@ -1,19 +1,17 @@
 -- A turn of `free_nodes`: the top of the stack has its lists pushed, then it is freed.
 -- Assumes nothing.
+use Rattle.std.specs.List.{slice_get}
+use Rattle.std.specs.Prelude.{None, Some}
 use mathlib.Core.Path.{◌≡◌, refl, sym, ap, ◌∙◌, subst}
 use mathlib.Core.Bool.{true, ◌&&◌}
-use mathlib.Core.Option.{none}
 use mathlib.Core.List.Memᴰ
 use mathlib.Core.List.{List, [], ◌∷◌, ◌++◌, map, reverse, append_assoc, append-nil, Memᴰ}
 use Prim.Native.Nat.{ℕ, zero, suc, ◌+◌, ◌-◌, ◌≤◌, ◌<◌}
 use native.Mathlib.Omega.{arith}
 use lib.Dec.{eqb}
-use lib.ListN.{length, get_or, set, take, length-append, length-reverse, length-map, length-set}
-use lib.Seq.{length-take-le, get_or-set_same}
-use Rattle.words.specs.Parts.{put}
+use lib.ListN.{length, get_or, set, length-append, length-reverse, length-map}
 use Rattle.words.specs.Lists.{count_of}
 use Rattle.words.proofs.Lists.{count_of-append}
-use Rattle.words.proofs.Parts.{length-put}
 use Rattle.blocks.specs.Arena.{Block}
 use Rattle.blocks.proofs.Capacities.{capacity-least}
 use Rattle.records.specs.Handles.{handle_index}
@@ -28,17 +26,17 @@ use Rattle.layout.specs.Layout.{limits_of, memory_ok}
 use Rattle.memory.specs.Decode.{slots_made, pool_in, names_in, lengths_add, decode}
 use Rattle.memory.specs.Step.{Step}
 use Rattle.memory.proofs.Columns.{length-gens}
-use Rattle.layout.proofs.Sizes.{sizes, limits-fit, memory-limits}
+use Rattle.layout.proofs.Sizes.{limits-fit, memory-limits}
 use Rattle.edits.specs.Pooled.{set_pool}
 use Rattle.edits.proofs.Composed.{step-none, step-as, step-memory, step-next}
 use Rattle.walks.specs.Order.{pushed_in, ListHeld}
+use Rattle.walks.specs.Stack.{Stacked, stacked, pushed, popped}
 use Rattle.laws.proofs.Membership.{distinct-map, mem-map-cases, pigeonhole}
 use Rattle.walks.proofs.Distinct.{count-distinct}
-use Rattle.walks.proofs.Pushing.{stack-lists}
-use Rattle.walks.proofs.Renewing.{stack_of, stack_top}
+use Rattle.walks.proofs.Stacks.{room_of, room-first, entries-first, room-popped, room-pushed, word_popped, none_popped}
 use Rattle.walks.proofs.Visits.{Nest}
 use Rattle.walks.proofs.Walkable.{live_of, same_index, index-made, nest-pushed}
-use Rattle.freeing.specs.Freed.{free_node, free_all_slots}
+use Rattle.freeing.specs.Freed.{free_slot, free_node, free_all_slots}
 use Rattle.freeing.specs.Asked.{NodeFreeable, SubtreeFreeable, Reclaimable}
 use Rattle.freeing.proofs.AllFreed.{free_all-none, free_all-next, next-freeable}
 use Rattle.freeing.proofs.Room.{all-freeable, all-reclaimable}
@@ -56,21 +54,21 @@ list-freed D l w s = refl
 -- nor does it change a slot that is not freed
 live-freed : (D : Doc) (l : List ℕ) (s : ℕ) → (Memᴰ s (slots_of l) → ⊥) → live_slot (free_all_slots D l) s ≡ live_slot D s
 unfolding free_all set_pool
-live-freed D l s n = ap (λ (g : ℕ). even g && is_some (get_or D.kinds s none)) (raised_all-other l D.gens s n)
+live-freed D l s n = ap (λ (g : ℕ). even g && is_some (get_or D.kinds s None)) (raised_all-other l D.gens s n)
 
 module _ (d : Document) (mem₀ : List ℕ) (h : ℕ) where
   abbrev D : Doc
   D = decode d mem₀
 
   -- so many turns are done: the nodes that they freed, and what the walk of the rest of the stack will
-  pub record Freeing (room : ℕ) (document : Document) (mem stack : List ℕ) (height left : ℕ) : Type 0 where
-    pub tall : height ≤ length stack
-    pub same-room : length stack ≡ room
+  pub record Freeing (room : ℕ) (document : Document) (mem : List ℕ) (stack : Stacked) : Type 0 where
+    pub same-room : room_of stack ≡ room
     pub done : List ℕ
     pub step : Step d mem₀ document mem (free_all_slots (decode d mem₀) done)
-    pub whole : done ++ walk (pushed_by (decode d mem₀)) left (stack_of height stack) ≡ subtree (decode d mem₀) h
+    pub left : ℕ
+    pub whole : done ++ walk (pushed_by (decode d mem₀)) left stack.entries ≡ subtree (decode d mem₀) h
     pub turns : length done + left ≡ slots_made d
-    pub met : Met (pushed_by (decode d mem₀)) (λ y. resolves (decode d mem₀) y ≡ true) (parent_at (decode d mem₀)) h done (stack_of height stack)
+    pub met : Met (pushed_by (decode d mem₀)) (λ y. resolves (decode d mem₀) y ≡ true) (parent_at (decode d mem₀)) h done stack.entries
 
   module _ (ok : memory_ok d (length mem₀) ≡ true) (S : SubtreeFreeable (decode d mem₀) h) where
     abbrev Meets : List ℕ → List ℕ → Type 0
@@ -94,32 +92,30 @@ module _ (d : Document) (mem₀ : List ℕ) (h : ℕ) where
         alive : (y : ℕ) → Memᴰ y (done ++ s) → resolves D y ≡ true
         alive y q = m.live y (omega (arith, mem-count y (done ++ s) q, count_of-append (eqb y) done s))
 
-    pub height-short : (room : ℕ) (document : Document) (mem stack : List ℕ) (height left : ℕ) → Freeing room document mem stack height left → height ≤ 65536
-    height-short room document mem stack height left F =
-        let size : length (stack_of height stack) ≡ height = length-reverse (take height stack) ∙ length-take-le height stack F.tall in
-        omega (arith, fits F.done (stack_of height stack) F.met, (sizes d (length mem₀) ok).nodes)
+    pub freeing-first : (words : List ℕ) → 0 < length words → (word : ℕ) → word ≡ h → (stack : Stacked) → stack ≡ stacked 1 (set words 0 word) → Freeing (length words) d mem₀ stack
+    freeing-first words b word q stack e =
+        let one : stack.entries ≡ h ∷ [] = ap (λ (s : Stacked). s.entries) e ∙ entries-first words word b ∙ ap (λ (k : ℕ). k ∷ []) q in
+        record {
+          same-room = ap (λ (s : Stacked). room_of s) e ∙ room-first words word b;
+          done = [];
+          step = step-none d mem₀ (free_all_slots D []) (free_all-none D S.outdated);
+          left = slots_made d;
+          whole =
+              ap (walk (pushed_by D) (slots_made d)) one
+              ∙ ap (λ (k : ℕ). walk (pushed_by D) k (h ∷ [])) (sym (length-gens (pool_in d mem₀) (names_in d mem₀) (lengths_add d mem₀) d mem₀));
+          turns = omega arith;
+          met = subst (Meets []) (sym one) (met-first (pushed_by D) (λ y. resolves D y ≡ true) (parent_at D) h nest);
+        }
 
-    pub freeing-first : (stack : List ℕ) (left : ℕ) → 0 < length stack → left ≡ slots_made d → Freeing (length (set stack 0 h)) d mem₀ (set stack 0 h) 1 left
-    freeing-first [] left b e = absurd (omega arith)
-    freeing-first (x ∷ l) left b e = record {
-      tall = omega arith;
-      same-room = refl;
-      done = [];
-      step = step-none d mem₀ (free_all_slots D []) (free_all-none D S.outdated);
-      whole = ap (λ (k : ℕ). walk (pushed_by D) k (h ∷ [])) (e ∙ sym (length-gens (pool_in d mem₀) (names_in d mem₀) (lengths_add d mem₀) d mem₀));
-      turns = omega arith;
-      met = met-first (pushed_by D) (λ y. resolves D y ≡ true) (parent_at D) h nest;
-    }
+    module _ (room : ℕ) (document : Document) (mem : List ℕ) (stack : Stacked) (F : Freeing room document mem stack) (word : ℕ) (top : Some word ≡ slice_get stack.entries 0) where
+      taken : stack.entries ≡ word ∷ (popped stack).entries
+      taken = word_popped stack word top
 
-    module _ (room : ℕ) (document : Document) (mem stack : List ℕ) (height left : ℕ) (F : Freeing room document mem stack height left) (pos : 0 < height) where
-      abbrev word : ℕ
-      word = get_or stack (height - 1) 0
+      m : Meets F.done (word ∷ (popped stack).entries)
+      m = subst (Meets F.done) taken F.met
 
-      m : Meets F.done (word ∷ stack_of (height - 1) stack)
-      m = subst (Meets F.done) (stack_top stack height pos F.tall) F.met
-
-      m' : Meets (F.done ++ (word ∷ [])) (pushed_by D word ++ stack_of (height - 1) stack)
-      m' = met_next (pushed_by D) (λ y. resolves D y ≡ true) (parent_at D) h nest F.done (stack_of (height - 1) stack) word m
+      m' : Meets (F.done ++ (word ∷ [])) (pushed_by D word ++ (popped stack).entries)
+      m' = met_next (pushed_by D) (λ y. resolves D y ≡ true) (parent_at D) h nest F.done (popped stack).entries word m
 
       top-once : (y : ℕ) → count_of (eqb y) (F.done ++ (word ∷ [])) ≤ 1
       top-once y = omega (arith, m.once y, count_of-append (eqb y) F.done (word ∷ []))
@@ -130,13 +126,13 @@ module _ (d : Document) (mem₀ : List ℕ) (h : ℕ) where
       word_live : resolves D word ≡ true
       word_live = top-live word (Memᴰ.append_right F.done (Memᴰ.head refl))
 
-      pub turn-left : 1 ≤ left
-      turn-left = omega (arith, fits F.done (word ∷ stack_of (height - 1) stack) m, F.turns)
+      turn-left : 1 ≤ F.left
+      turn-left = omega (arith, fits F.done (word ∷ (popped stack).entries) m, F.turns)
 
       pub memory-freed : memory_ok document (length mem) ≡ true
       memory-freed = step-memory d mem₀ document mem (free_all_slots D F.done) F.step ok
 
-      module _ (s : ℕ) (e : s ≡ handle_index (get_or stack (height - 1) 0)) where
+      module _ (s : ℕ) (e : s ≡ handle_index word) where
         -- ---- its lists
 
         -- a handle is freed once, so its slot is not free yet
@@ -183,17 +179,16 @@ module _ (d : Document) (mem₀ : List ℕ) (h : ℕ) where
             ∙ ap (λ (x : List ℕ). list_in D children (handle_index word) ++ (x ++ list_in (decode document mem) namespaces s)) (list_same attributes)
             ∙ ap (λ (x : List ℕ). list_in D children (handle_index word) ++ (list_in D attributes (handle_index word) ++ x)) (list_same namespaces)
 
-        pub stack-room : d.limits.nodes ≤ room → height - 1 + length (pushed_in (decode document mem) s) ≤ length stack
+        pub stack-room : d.limits.nodes ≤ room → length (pushed_in (decode document mem) s) ≤ length (popped stack).free
         stack-room b =
-            let t = F.tall in
             let r = F.same-room in
-            let size : length (stack_of (height - 1) stack) ≡ height - 1 = length-reverse (take (height - 1) stack) ∙ length-take-le (height - 1) stack (omega arith) in
             omega (
               arith,
-              fits (F.done ++ (word ∷ [])) (pushed_by D word ++ stack_of (height - 1) stack) m',
-              length-append (pushed_by D word) (stack_of (height - 1) stack),
+              fits (F.done ++ (word ∷ [])) (pushed_by D word ++ (popped stack).entries) m',
+              length-append (pushed_by D word) (popped stack).entries,
               length-reverse (pushed_in D (handle_index word)),
               ap length pushed-same,
+              room-popped stack,
             )
 
         -- ---- it is freed
@@ -204,43 +199,55 @@ module _ (d : Document) (mem₀ : List ℕ) (h : ℕ) where
             (subst (λ (x : Doc). NodeFreeable x (handle_index word)) (sym F.step.document)
             (next-freeable D F.done word (all-freeable D S.freeable (F.done ++ (word ∷ [])) top-once top-live)))
 
-        pub freeing-next : d.limits.nodes ≤ room → (stack' : List ℕ) (height' : ℕ) → height' ≡ height - 1 + length (pushed_in (decode document mem) s)
-            → stack' ≡ put (height - 1) (pushed_in (decode document mem) s) stack
+        -- each turn puts a slot on the free list
+        pub freed-smaller : (document' : Document) (mem' : List ℕ) → Step document mem document' mem' (free_node (decode document mem) s)
+            → document'.limits.nodes - length (decode document' mem').free < document.limits.nodes - length (decode document mem).free
+        unfolding free_slot set_pool
+        freed-smaller document' mem' t =
+            let room : length (decode document mem).free < document.limits.nodes = node-freeable.slot.room in
+            let more : length (decode document' mem').free ≡ suc (length (decode document mem).free) = ap (λ (x : Doc). length x.free) t.document in
+            let same : document'.limits.nodes ≡ document.limits.nodes = ap (λ (x : Limits). x.nodes) t.limits in
+            omega arith
+
+        pub freeing-next : d.limits.nodes ≤ room → (stack' : Stacked) → stack' ≡ pushed (reverse (pushed_in (decode document mem) s)) (popped stack)
             → (document' : Document) (mem' : List ℕ) → Step document mem document' mem' (free_node (decode document mem) s)
-            → Freeing room document' mem' stack' height' (left - 1)
-        freeing-next b stack' height' a p document' mem' t =
-            let size : length stack' ≡ length stack = ap length p ∙ length-put stack (height - 1) (pushed_in (decode document mem) s) (stack-room b) in
-            let top : stack_of height' stack' ≡ pushed_by D word ++ stack_of (height - 1) stack =
-            ap (λ (k : ℕ). stack_of k stack') a
-            ∙ ap (stack_of (height - 1 + length (pushed_in (decode document mem) s))) p
-            ∙ stack-lists stack (pushed_in (decode document mem) s) (height - 1) (stack-room b)
-            ∙ ap (λ (x : List ℕ). reverse x ++ stack_of (height - 1) stack) pushed-same in
+            → Freeing room document' mem' stack'
+        freeing-next b stack' p document' mem' t =
+            let l = reverse (pushed_in (decode document mem) s) in
+            let top' : stack'.entries ≡ pushed_by D word ++ (popped stack).entries =
+            ap (λ (x : Stacked). x.entries) p ∙ ap (λ (x : List ℕ). reverse x ++ (popped stack).entries) pushed-same in
             record {
-              tall = omega (arith, stack-room b);
-              same-room = size ∙ F.same-room;
+              same-room =
+                  ap (λ (x : Stacked). room_of x) p
+                  ∙ room-pushed l (popped stack) (omega (arith, stack-room b, length-reverse (pushed_in (decode document mem) s)))
+                  ∙ room-popped stack ∙ F.same-room;
               done = F.done ++ (word ∷ []);
               step =
                   step-as d mem₀ document' mem' (free_node (free_all_slots D F.done) s) (free_all_slots D (F.done ++ (word ∷ [])))
                   (step-next d mem₀ document mem (free_all_slots D F.done) F.step (λ (x : Doc). free_node x s) document' mem' t)
                   (ap (free_node (free_all_slots D F.done)) e ∙ free_all-next D F.done word);
-              whole = append_assoc F.done (word ∷ []) _ ∙ ap (λ (x : List ℕ). F.done ++ x) (walked left turn-left top) ∙ F.whole;
+              left = F.left - 1;
+              whole = append_assoc F.done (word ∷ []) _ ∙ ap (λ (x : List ℕ). F.done ++ x) (walked F.left turn-left top') ∙ F.whole;
               turns = let r = F.turns in omega (arith, turn-left, length-append F.done (word ∷ []));
-              met = subst (Meets (F.done ++ (word ∷ []))) (sym top) m';
+              met = subst (Meets (F.done ++ (word ∷ []))) (sym top') m';
             }
           where
-            walked : (n : ℕ) → 1 ≤ n → stack_of height' stack' ≡ pushed_by D word ++ stack_of (height - 1) stack
-                → word ∷ walk (pushed_by D) (n - 1) (stack_of height' stack') ≡ walk (pushed_by D) n (stack_of height stack)
+            walked : (n : ℕ) → 1 ≤ n → stack'.entries ≡ pushed_by D word ++ (popped stack).entries
+                → word ∷ walk (pushed_by D) (n - 1) stack'.entries ≡ walk (pushed_by D) n stack.entries
             walked zero b q = absurd (omega arith)
             walked (suc n) b q =
                 let z : suc n - 1 ≡ n = omega arith in
-                ap (λ (k : ℕ). word ∷ walk (pushed_by D) k (stack_of height' stack')) z
+                ap (λ (k : ℕ). word ∷ walk (pushed_by D) k stack'.entries) z
                 ∙ ap (λ (x : List ℕ). word ∷ walk (pushed_by D) n x) q
-                ∙ sym (ap (walk (pushed_by D) (suc n)) (stack_top stack height pos F.tall))
+                ∙ sym (ap (walk (pushed_by D) (suc n)) taken)
 
-    pub freeing-last : (room : ℕ) (document : Document) (mem stack : List ℕ) (height left : ℕ) → Freeing room document mem stack height left → height ≤ 0
+    pub freeing-last : (room : ℕ) (document : Document) (mem : List ℕ) (stack : Stacked) → Freeing room document mem stack → None ≡ slice_get stack.entries 0
         → Step d mem₀ document mem (free_all_slots (decode d mem₀) (subtree (decode d mem₀) h)) × Reclaimable (free_all_slots (decode d mem₀) (subtree (decode d mem₀) h))
-    freeing-last room document mem stack zero left F b =
-        let whole : F.done ≡ subtree D h = sym (append-nil F.done) ∙ ap (λ (x : List ℕ). F.done ++ x) (sym (walk_none left)) ∙ F.whole in (
+    freeing-last room document mem stack F b =
+        let whole : F.done ≡ subtree D h =
+        sym (append-nil F.done)
+        ∙ ap (λ (x : List ℕ). F.done ++ x) (sym (walk_none F.left) ∙ ap (walk (pushed_by D) F.left) (sym (none_popped stack b)))
+        ∙ F.whole in (
           step-as d mem₀ document mem (free_all_slots D F.done) (free_all_slots D (subtree D h)) F.step (ap (free_all_slots D) whole),
           subst (λ (l : List ℕ). Reclaimable (free_all_slots D l)) whole
               (all-reclaimable D S.freeable F.done (λ y. omega (arith, F.met.once y)) (λ y q. F.met.live y (omega (arith, mem-count y F.done q)))),
@@ -249,31 +256,6 @@ module _ (d : Document) (mem₀ : List ℕ) (h : ℕ) where
         walk_none : (n : ℕ) → walk (pushed_by D) n [] ≡ []
         walk_none zero = refl
         walk_none (suc n) = refl
-    freeing-last room document mem stack (suc n) left F b = absurd (omega arith)
-
--- ---- the walk begins at the node whose word lies lowest on the stack
-
-module _ (h w : ℕ) (stack : List ℕ) (b : 0 < length stack) (e : w ≡ h) where
-  pub lowest : get_or (set stack 0 w) 0 0 ≡ h
-  lowest = get_or-set_same stack 0 w 0 b ∙ e
-
-  pub lowest-freeable : (D : Doc) → SubtreeFreeable D h → SubtreeFreeable D (get_or (set stack 0 w) 0 0)
-  lowest-freeable D S = subst (SubtreeFreeable D) (sym lowest) S
-
-  pub lowest-first : (d : Document) (mem : List ℕ) → memory_ok d (length mem) ≡ true → SubtreeFreeable (decode d mem) h → (left : ℕ) → left ≡ slots_made d
-      → Freeing d mem (get_or (set stack 0 w) 0 0) (length (set stack 0 w)) d mem (set stack 0 w) 1 left
-  lowest-first d mem ok S left q =
-      subst (λ (k : ℕ). Freeing d mem k (length (set stack 0 w)) d mem (set stack 0 w) 1 left) (sym lowest)
-      (subst (λ (k : ℕ). Freeing d mem h (length (set stack 0 k)) d mem (set stack 0 k) 1 left) (sym e) (freeing-first d mem h ok S stack left b q))
-
-  pub lowest-last : (d : Document) (mem : List ℕ) (r : Document) (mem' : List ℕ)
-      → Step d mem r mem' (free_all_slots (decode d mem) (subtree (decode d mem) (get_or (set stack 0 w) 0 0))) × Reclaimable (free_all_slots (decode d mem) (subtree (decode d mem) (get_or (set stack 0 w) 0 0)))
-      → Step d mem r mem' (free_all_slots (decode d mem) (subtree (decode d mem) h)) × Reclaimable (free_all_slots (decode d mem) (subtree (decode d mem) h))
-  lowest-last d mem r mem' s =
-      subst (λ (k : ℕ). Step d mem r mem' (free_all_slots (decode d mem) (subtree (decode d mem) k)) × Reclaimable (free_all_slots (decode d mem) (subtree (decode d mem) k))) lowest s
 
 pub stack_some : (d : Document) (mem room : ℕ) → memory_ok d mem ≡ true → d.limits.nodes ≤ room → 0 < room
 stack_some d mem room ok b = omega (arith, (limits-fit (limits_of d.limits) (memory-limits d mem ok)).some-node)
-
-pub room-set : (stack : List ℕ) (w n : ℕ) → n ≤ length stack → n ≤ length (set stack 0 w)
-room-set stack w n b = omega (arith, length-set stack 0 w)

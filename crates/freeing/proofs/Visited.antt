@@ -1,9 +1,10 @@
 -- A walk with a stack that meets each node once, with the list of what it visited.
 -- Assumes nothing.
+use Rattle.std.proofs.lemmas.Option.{same_Some}
+use Rattle.std.specs.Prelude.{Option, Some}
 use mathlib.Core.Path.{◌≡◌, refl, sym, ◌∙◌, subst}
 use mathlib.Core.Logic.{◌⊎◌, inl, inr}
 use mathlib.Core.Bool.{Bool, true, false, cond}
-use mathlib.Core.Option.{Option, some, some-injective}
 use mathlib.Core.List.{List, [], ◌∷◌, ◌++◌, Memᴰ}
 use Prim.Native.Nat.{ℕ, ◌+◌, ◌≤◌, ◌<◌}
 use native.Mathlib.Omega.{arith}
@@ -37,7 +38,7 @@ module _ (next : ℕ → List ℕ) (Live : ℕ → Type 0) (parent : ℕ → Opt
   pub record Met (done stack : List ℕ) : Type 0 where
     pub once : (y : ℕ) → count_of (eqb y) done + count_of (eqb y) stack ≤ 1
     pub live : (y : ℕ) → 0 < count_of (eqb y) done + count_of (eqb y) stack → Live y
-    pub pushed : (y : ℕ) → 0 < count_of (eqb y) done + count_of (eqb y) stack → (y ≡ top) ⊎ ((p : ℕ) × (0 < count_of (eqb p) done) × (parent y ≡ some p))
+    pub pushed : (y : ℕ) → 0 < count_of (eqb y) done + count_of (eqb y) stack → (y ≡ top) ⊎ ((p : ℕ) × (0 < count_of (eqb p) done) × (parent y ≡ Some p))
 
   pub met-first : Nest next Live parent top → Met [] (top ∷ [])
   met-first n = record {
@@ -54,7 +55,7 @@ module _ (next : ℕ → List ℕ) (Live : ℕ → Type 0) (parent : ℕ → Opt
     record New (y : ℕ) : Type 0 where
       pub fresh : count_of (eqb y) done + count_of (eqb y) (x ∷ s) ≡ 0
       pub alive : Live y
-      pub under : parent y ≡ some x
+      pub under : parent y ≡ Some x
       pub single : count_of (eqb y) (next x) ≡ 1
 
     new : (y : ℕ) → 0 < count_of (eqb y) (next x) → New y
@@ -63,15 +64,15 @@ module _ (next : ℕ → List ℕ) (Live : ℕ → Type 0) (parent : ℕ → Opt
         q : Memᴰ y (next x)
         q = count-mem y (next x) h
 
-        k : Live y × (parent y ≡ some x) × (y ≡ top → ⊥)
+        k : Live y × (parent y ≡ Some x) × (y ≡ top → ⊥)
         k = n.child x y lx q
 
         visited-once : (p : ℕ) → 0 < count_of (eqb p) done → p ≡ x → ⊥
         visited-once p h e = let z = subst (λ (j : ℕ). 0 < count_of (eqb j) done) e h in omega (arith, m.once x, here-one x)
 
-        go : (y ≡ top) ⊎ ((p : ℕ) × (0 < count_of (eqb p) done) × (parent y ≡ some p)) → ⊥
+        go : (y ≡ top) ⊎ ((p : ℕ) × (0 < count_of (eqb p) done) × (parent y ≡ Some p)) → ⊥
         go (inl e) = k.2 e
-        go (inr o) = visited-once o.0 o.1 (some-injective o.0 x (sym o.2 ∙ k.1))
+        go (inr o) = visited-once o.0 o.1 (same_Some o.0 x (sym o.2 ∙ k.1))
 
         fresh : Dec (0 < count_of (eqb y) done + count_of (eqb y) (x ∷ s)) → count_of (eqb y) done + count_of (eqb y) (x ∷ s) ≡ 0
         fresh (yes b) = absurd (go (m.pushed y b))
@@ -92,11 +93,11 @@ module _ (next : ℕ → List ℕ) (Live : ℕ → Type 0) (parent : ℕ → Opt
         live y (yes h) b = (new y h).alive
         live y (no h) b = m.live y (omega (arith, sums y))
 
-        kept : (y : ℕ) → (y ≡ top) ⊎ ((p : ℕ) × (0 < count_of (eqb p) done) × (parent y ≡ some p)) → (y ≡ top) ⊎ ((p : ℕ) × (0 < count_of (eqb p) (done ++ (x ∷ []))) × (parent y ≡ some p))
+        kept : (y : ℕ) → (y ≡ top) ⊎ ((p : ℕ) × (0 < count_of (eqb p) done) × (parent y ≡ Some p)) → (y ≡ top) ⊎ ((p : ℕ) × (0 < count_of (eqb p) (done ++ (x ∷ []))) × (parent y ≡ Some p))
         kept y (inl e) = inl e
         kept y (inr o) = inr (o.0, (let b = o.1 in omega (arith, count_of-append (eqb o.0) done (x ∷ []))), o.2)
 
         pushed : (y : ℕ) → Dec (0 < count_of (eqb y) (next x)) → 0 < count_of (eqb y) (done ++ (x ∷ [])) + count_of (eqb y) (next x ++ s)
-            → (y ≡ top) ⊎ ((p : ℕ) × (0 < count_of (eqb p) (done ++ (x ∷ []))) × (parent y ≡ some p))
+            → (y ≡ top) ⊎ ((p : ℕ) × (0 < count_of (eqb p) (done ++ (x ∷ []))) × (parent y ≡ Some p))
         pushed y (yes h) b = inr (x, omega (arith, count_of-append (eqb x) done (x ∷ []), here-one x), (new y h).under)
         pushed y (no h) b = kept y (m.pushed y (omega (arith, sums y)))

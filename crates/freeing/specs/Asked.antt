@@ -1,6 +1,5 @@
 -- What is asked before texts are released and nodes are freed.
-use Rattle.std.specs.Prelude.{◌≡◌, true, false, List, ℕ, ◌+◌, ◌≤◌, ◌<◌, length, get_or, eqb}
-use Rattle.std.proofs.Math.Option.{Option, none}
+use Rattle.std.specs.Prelude.{◌≡◌, true, false, List, ℕ, ◌+◌, ◌≤◌, ◌<◌, length, get_or, eqb, Option, None}
 use Rattle.words.specs.Lists.{count_of}
 use Rattle.blocks.specs.Rule.{Inside}
 use Rattle.model.specs.Kinds.{Which, texts_of}
@@ -45,5 +44,5 @@ pub record SubtreeFreeable (D : Doc) (h : ℕ) : Type 0 where
   pub entries : Entries D
   pub inside : (w : Which) (i : ℕ) → live_slot D i ≡ true → Inside (D.arenas w) (range_in D w i)
   pub live : resolves D h ≡ true
-  pub top : parent_at D h ≡ none
+  pub top : parent_at D h ≡ None
   pub outdated : D.current ≡ false

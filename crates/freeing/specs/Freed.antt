@@ -1,26 +1,11 @@
 -- A node freed: its text slots on the free text list, then its own slot free. The bytes of all texts are given back after.
-use Rattle.std.specs.Prelude.{false, List, [], ◌∷◌, ℕ, set}
-use Rattle.std.proofs.Math.Option.{Option}
+use Rattle.std.specs.Prelude.{false, List, [], ◌∷◌, ℕ, set, Option}
 use Rattle.words.specs.Lists.{joined}
 use Rattle.texts.specs.Pool.{Pool, pushed}
-use Rattle.records.specs.declared.Chars.TheVariants.{Empty}
-use Rattle.records.specs.declared.NodeData.{NodeData}
-use Rattle.records.specs.declared.NodeData.TheVariants as given
 use Rattle.model.specs.Kinds.{texts_of}
 use Rattle.model.specs.Doc.{Doc, change_slots, change_current, generation_at, kind_in, kind_at}
 use Rattle.model.specs.Edits.{up, free_all}
 use Rattle.edits.specs.Pooled.{set_pool}
-use Rattle.freeing.specs.declared.release.HeldTexts.{HeldTexts}
-
--- the two text fields of a node; one that it does not have is empty
-abbrev pub texts_in : NodeData → HeldTexts
-texts_in given.Root = record { first = Empty; second = Empty }
-texts_in (given.Element n a s) = record { first = Empty; second = Empty }
-texts_in (given.Attr n v) = record { first = v; second = Empty }
-texts_in (given.Text v) = record { first = v; second = Empty }
-texts_in (given.Comment v) = record { first = v; second = Empty }
-texts_in (given.Namespace p u) = record { first = p; second = u }
-texts_in (given.ProcessingInstruction t c) = record { first = t; second = c }
 
 -- the slot goes on the free list, its generation up by one; the order stops being current
 unfoldable pub free_slot : Doc → ℕ → Doc

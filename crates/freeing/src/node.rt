@@ -15,9 +15,8 @@ fn free_slot(d: Document, mem: &mut [u64], slot: NodeSlot) -> Document
     requires { (memory_ok d (length mem.old) ≡ true) × SlotFreeable (decode d mem.old) slot.0 }
     ensures { Step d mem.old result mem.new (free_slot (decode d mem.old) slot.0) }
 {
-    let c = d.counts;
     let free = memory::parts::free_slot(d, mem, slot);
-    with_slots(d, c.slots, free)
+    with_slots(d, d.counts.slots, free)
 }
 
 // The node's text slots go on the free text list before its own slot is free.

@@ -1,6 +1,5 @@
 // The texts of nodes are released: each slot goes on the free text list, then the bytes of all are given back.
 ghost use Rattle.std.specs.Prelude.{◌≡◌, true, ◌∷◌, [], ◌≤◌, ◌<◌, length};
-ghost use Rattle.std.proofs.Math.Option.{some};
 ghost use Rattle.model.specs.Kinds.{texts_of};
 ghost use Rattle.model.specs.Doc.{kind_in};
 ghost use Rattle.texts.specs.Pool.{reclaimed};
@@ -8,74 +7,34 @@ ghost use Rattle.layout.specs.Layout.{memory_ok};
 ghost use Rattle.memory.specs.Decode.{slot_of, kind_of, slots_made, decode};
 ghost use Rattle.memory.specs.Step.{Step};
 ghost use Rattle.edits.specs.Pooled.{set_pool};
-ghost use Rattle.freeing.specs.Freed.{texts_in, pushed_all};
+ghost use Rattle.freeing.specs.Freed.{pushed_all};
 ghost use Rattle.freeing.specs.Asked.{Releasable, Reclaimable};
 
 use layout::Document;
 use layout::record::with_texts;
 use memory::parts::{give_back, push_text};
-use records::{Chars, Loaded, NodeData};
+use memory::read::load;
+use records::NodeData;
+use records::encode::{first_text, second_text};
 use words::{NodeSlot, TextSlot};
-
-// The text fields of a node: one that it does not have is empty.
-#[derive(Clone, Copy)]
-pub struct HeldTexts {
-    pub first: Chars,
-    pub second: Chars,
-}
 
 // The text slot goes on the free text list. Its bytes are given back by `reclaim_texts`.
 fn push_slot(d: Document, mem: &mut [u64], slot: TextSlot) -> Document
-    requires { (memory_ok d (length mem.old) ≡ true) × Releasable (decode d mem.old) (some slot.0 ∷ []) }
-    ensures { Step d mem.old result mem.new (set_pool (decode d mem.old) (pushed_all (decode d mem.old).pool (some slot.0 ∷ []))) }
+    requires { (memory_ok d (length mem.old) ≡ true) × Releasable (decode d mem.old) (Some slot.0 ∷ []) }
+    ensures { Step d mem.old result mem.new (set_pool (decode d mem.old) (pushed_all (decode d mem.old).pool (Some slot.0 ∷ []))) }
 {
     let after = push_text(d, mem, slot);
     with_texts(d, after)
 }
 
 // A text stored empty has no slot.
-fn push_chars(d: Document, mem: &mut [u64], field: Chars) -> Document
+fn push_chars(d: Document, mem: &mut [u64], field: Option<TextSlot>) -> Document
     requires { (memory_ok d (length mem.old) ≡ true) × Releasable (decode d mem.old) (slot_of field ∷ []) }
     ensures { Step d mem.old result mem.new (set_pool (decode d mem.old) (pushed_all (decode d mem.old).pool (slot_of field ∷ []))) }
 {
     match field {
-        Chars::Empty => d,
-        Chars::Expanded(slot) => push_slot(d, mem, slot),
-    }
-}
-
-fn texts_in(data: NodeData) -> HeldTexts
-    ensures { result ≡ texts_in «data» }
-{
-    match data {
-        NodeData::Root => HeldTexts {
-            first: Chars::Empty,
-            second: Chars::Empty,
-        },
-        NodeData::Element { .. } => HeldTexts {
-            first: Chars::Empty,
-            second: Chars::Empty,
-        },
-        NodeData::Attr { value, .. } => HeldTexts {
-            first: value,
-            second: Chars::Empty,
-        },
-        NodeData::Text(content) => HeldTexts {
-            first: content,
-            second: Chars::Empty,
-        },
-        NodeData::Comment(content) => HeldTexts {
-            first: content,
-            second: Chars::Empty,
-        },
-        NodeData::Namespace { prefix, uri } => HeldTexts {
-            first: prefix,
-            second: uri,
-        },
-        NodeData::ProcessingInstruction { target, data } => HeldTexts {
-            first: target,
-            second: data,
-        },
+        None => d,
+        Some(slot) => push_slot(d, mem, slot),
     }
 }
 
@@ -83,9 +42,8 @@ fn push_data(d: Document, mem: &mut [u64], data: NodeData) -> Document
     requires { (memory_ok d (length mem.old) ≡ true) × Releasable (decode d mem.old) (texts_of (kind_of «data»)) }
     ensures { Step d mem.old result mem.new (set_pool (decode d mem.old) (pushed_all (decode d mem.old).pool (texts_of (kind_of «data»)))) }
 {
-    let held = texts_in(data);
-    let first = held.first;
-    let second = held.second;
+    let first = first_text(data);
+    let second = second_text(data);
     let pushed = push_chars(d, mem, first);
     push_chars(pushed, mem, second)
 }
@@ -95,13 +53,9 @@ pub fn push_texts(d: Document, mem: &mut [u64], slot: NodeSlot) -> Document
     requires { (memory_ok d (length mem.old) ≡ true) × (slot.0 < slots_made d) × Releasable (decode d mem.old) (texts_of (kind_in (decode d mem.old) slot.0)) }
     ensures { Step d mem.old result mem.new (set_pool (decode d mem.old) (pushed_all (decode d mem.old).pool (texts_of (kind_in (decode d mem.old) slot.0)))) }
 {
-    let loaded = memory::read::load(d, &mem[..], slot);
-    match loaded {
-        Loaded::Found(node) => {
-            let data = node.data;
-            push_data(d, mem, data)
-        }
-        Loaded::NoNode => d,
+    match load(d, &mem[..], slot) {
+        Some(node) => push_data(d, mem, node.data),
+        None => d,
     }
 }
 

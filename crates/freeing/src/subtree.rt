@@ -16,29 +16,24 @@ use crate::node::free_node;
 use crate::release::reclaim_texts;
 use edits::hooks::unhook;
 use layout::Document;
-use memory::read::made;
 use records::NodeId;
-use records::handle::{id_of, word_of};
+use records::handle::word_of;
 use walks::list::push_lists;
-use words::NodeSlot;
+use walks::order::slot_of;
+use walks::stack::Stack;
 
 // Pushes children, attributes and namespaces, pops from the end, and frees each after pushing its own.
-fn free_nodes(d: Document, mem: &mut [u64], stack: &mut [u64], id: NodeId) -> Document
-    requires { (memory_ok d (length mem.old) ≡ true) × (d.limits.nodes ≤ length stack.old) × SubtreeFreeable (decode d mem.old) (word_of id) }
+fn free_nodes(d: Document, mem: &mut [u64], words: &mut [u64], id: NodeId) -> Document
+    requires { (memory_ok d (length mem.old) ≡ true) × (d.limits.nodes ≤ length words.old) × SubtreeFreeable (decode d mem.old) (word_of id) }
     ensures step { Step d mem.old result mem.new (free_all_slots (decode d mem.old) (subtree (decode d mem.old) (word_of id))) }
     ensures reclaimable { Reclaimable (free_all_slots (decode d mem.old) (subtree (decode d mem.old) (word_of id))) }
 {
-    stack[0] = word_of(id);
-    let mut height = 1;
+    let mut stack = Stack::with_word(words, word_of(id));
     let mut document = d;
-    let mut left = made(d);
-    while 0 < height {
-        height -= 1;
-        let node = id_of(stack[height]);
-        let slot = NodeSlot(node.index);
-        height = push_lists(document, &mem[..], stack, height, slot);
+    while let Some(word) = stack.pop() {
+        let slot = slot_of(word);
+        push_lists(document, &mem[..], &mut stack, slot);
         document = free_node(document, mem, slot);
-        left -= 1;
     }
     document
 }

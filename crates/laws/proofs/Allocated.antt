@@ -1,9 +1,9 @@
 -- The slot of a new node: a free one reused or a new one made, and what that does to the columns and to the free list.
 -- Assumes nothing.
+use Rattle.std.specs.Prelude.{Option, None, Some}
 use mathlib.Core.Path.{◌≡◌, refl, sym, ap, ◌∙◌, subst}
 use mathlib.Core.Logic.{◌≢◌, ◌⊎◌, inl, inr}
 use mathlib.Core.Bool.{true, false, true≢false}
-use mathlib.Core.Option.{Option, none, some}
 use mathlib.Core.List.Memᴰ
 use mathlib.Core.List.{List, [], ◌∷◌, ◌++◌, Memᴰ}
 use Prim.Native.Nat.{ℕ, ◌+◌, ◌≤◌, ◌<◌}
@@ -33,10 +33,10 @@ pub record Allocated (d : Doc) (x g : ℕ) (k : Kind ℕ (Option ℕ)) (gens : L
   pub gen_even : even g ≡ true
   pub gen_other : (i : ℕ) → i ≢ x → get_or gens i 1 ≡ generation_at d i
   pub gen_fits : (i : ℕ) → i < length gens → get_or gens i 0 < 4294967296
-  pub kind_here : get_or kinds x none ≡ some k
-  pub kind_other : (i : ℕ) → i ≢ x → get_or kinds i none ≡ get_or d.kinds i none
-  pub parent_here : get_or parents x none ≡ none
-  pub parent_other : (i : ℕ) → i ≢ x → get_or parents i none ≡ get_or d.parents i none
+  pub kind_here : get_or kinds x None ≡ Some k
+  pub kind_other : (i : ℕ) → i ≢ x → get_or kinds i None ≡ get_or d.kinds i None
+  pub parent_here : get_or parents x None ≡ None
+  pub parent_other : (i : ℕ) → i ≢ x → get_or parents i None ≡ get_or d.parents i None
   pub range_here : (w : Which) → get_or (ranges w) x (block 0 0) ≡ block 0 0
   pub range_other : (w : Which) (i : ℕ) → i ≢ x → get_or (ranges w) i (block 0 0) ≡ range_in d w i
   pub kinds_length : length kinds ≡ length gens
@@ -59,7 +59,7 @@ with-columns d gens free kinds parents ranges order p n =
 module _ (d : Doc) (t : Tree) (hs : ℕ → ℕ) (S : Sim d t hs) (k : Kind ℕ (Option ℕ)) where
   -- a new slot
   module _ (room : length d.gens < d.limits.nodes) where
-    pub appended : Allocated d (length d.gens) 0 k (d.gens ++ (0 ∷ [])) (d.kinds ++ (some k ∷ [])) (d.parents ++ (none ∷ [])) (λ w. d.ranges w ++ (block 0 0 ∷ []))
+    pub appended : Allocated d (length d.gens) 0 k (d.gens ++ (0 ∷ [])) (d.kinds ++ (Some k ∷ [])) (d.parents ++ (None ∷ [])) (λ w. d.ranges w ++ (block 0 0 ∷ []))
     appended =
         record {
           was = ap even (get_or-eq_default d.gens 1 (omega arith));
@@ -67,10 +67,10 @@ module _ (d : Doc) (t : Tree) (hs : ℕ → ℕ) (S : Sim d t hs) (k : Kind ℕ 
           gen_even = refl;
           gen_other = λ i n. get_or-snoc-other d.gens 0 1 i n;
           gen_fits = λ i lt. gen_fits i (simp length-append at lt) (ℕ_discrete i (length d.gens));
-          kind_here = rw (← S.shape.kinds) (get_or-snoc-same d.kinds (some k) none);
-          kind_other = λ i n. get_or-snoc-other d.kinds (some k) none i (λ q. n (q ∙ S.shape.kinds));
-          parent_here = rw (← S.shape.parents) (get_or-snoc-same d.parents none none);
-          parent_other = λ i n. get_or-snoc-other d.parents none none i (λ q. n (q ∙ S.shape.parents));
+          kind_here = rw (← S.shape.kinds) (get_or-snoc-same d.kinds (Some k) None);
+          kind_other = λ i n. get_or-snoc-other d.kinds (Some k) None i (λ q. n (q ∙ S.shape.kinds));
+          parent_here = rw (← S.shape.parents) (get_or-snoc-same d.parents None None);
+          parent_other = λ i n. get_or-snoc-other d.parents None None i (λ q. n (q ∙ S.shape.parents));
           range_here = λ w. rw (← S.shape.ranges w) (get_or-snoc-same (d.ranges w) (block 0 0) (block 0 0));
           range_other = λ w i n. get_or-snoc-other (d.ranges w) (block 0 0) (block 0 0) i (λ q. n (q ∙ S.shape.ranges w));
           kinds_length = simp length-append (ap (λ (n : ℕ). n + 1) S.shape.kinds);
@@ -110,7 +110,7 @@ module _ (d : Doc) (t : Tree) (hs : ℕ → ℕ) (S : Sim d t hs) (k : Kind ℕ 
     odd-here : even (generation_at d j) ≡ false
     odd-here = (S.free.odd j here).1
 
-    pub reused : Allocated d j (up (generation_at d j)) k (set d.gens j (up (generation_at d j))) (set d.kinds j (some k)) (set d.parents j none) (λ w. set (d.ranges w) j (block 0 0))
+    pub reused : Allocated d j (up (generation_at d j)) k (set d.gens j (up (generation_at d j))) (set d.kinds j (Some k)) (set d.parents j None) (λ w. set (d.ranges w) j (block 0 0))
     reused =
         record {
           was = odd-here;
@@ -118,10 +118,10 @@ module _ (d : Doc) (t : Tree) (hs : ℕ → ℕ) (S : Sim d t hs) (k : Kind ℕ 
           gen_even = up-even (generation_at d j) odd-here;
           gen_other = λ i n. get_or-set_other d.gens j i (up (generation_at d j)) 1 n;
           gen_fits = λ i lt. gen_fits i (simp length-set at lt) (ℕ_discrete i j);
-          kind_here = get_or-set_same d.kinds j (some k) none (omega (arith, inside, S.shape.kinds));
-          kind_other = λ i n. get_or-set_other d.kinds j i (some k) none n;
-          parent_here = get_or-set_same d.parents j none none (omega (arith, inside, S.shape.parents));
-          parent_other = λ i n. get_or-set_other d.parents j i none none n;
+          kind_here = get_or-set_same d.kinds j (Some k) None (omega (arith, inside, S.shape.kinds));
+          kind_other = λ i n. get_or-set_other d.kinds j i (Some k) None n;
+          parent_here = get_or-set_same d.parents j None None (omega (arith, inside, S.shape.parents));
+          parent_other = λ i n. get_or-set_other d.parents j i None None n;
           range_here = λ w. get_or-set_same (d.ranges w) j (block 0 0) (block 0 0) (omega (arith, inside, S.shape.ranges w));
           range_other = λ w i n. get_or-set_other (d.ranges w) j i (block 0 0) (block 0 0) n;
           kinds_length = simp length-set S.shape.kinds;

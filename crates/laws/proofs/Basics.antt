@@ -1,9 +1,9 @@
 -- What every proof about the relation uses: columns changed at one place, live slots, and the birth that a handle means.
 -- Assumes nothing.
+use Rattle.std.specs.Prelude.{Option, None, Some}
 use mathlib.Core.Path.{◌≡◌, refl, sym, ap, ◌∙◌, subst}
 use mathlib.Core.Logic.{◌≢◌, ◌⊎◌, inl, inr}
 use mathlib.Core.Bool.{Bool, true, false, cond, ◌&&◌, false≢true, true≢false}
-use mathlib.Core.Option.{Option, none, some}
 use mathlib.Core.List.Memᴰ
 use mathlib.Core.List.{List, [], ◌∷◌, ◌++◌, Memᴰ}
 use Prim.Native.Nat.{ℕ, zero, suc, ◌+◌, ◌≤◌, ◌<◌}
@@ -113,18 +113,18 @@ module _ (l : Limits) (ok : limits_ok l ≡ true) where
 
 module _ (d : Doc) (i : ℕ) where
   pub live-even : live_slot d i ≡ true → even (generation_at d i) ≡ true
-  live-even l = and_left (even (generation_at d i)) (is_some (get_or d.kinds i none)) l
+  live-even l = and_left (even (generation_at d i)) (is_some (get_or d.kinds i None)) l
 
-  pub live-some : live_slot d i ≡ true → is_some (get_or d.kinds i none) ≡ true
-  live-some l = and_right (even (generation_at d i)) (is_some (get_or d.kinds i none)) l
+  pub live-some : live_slot d i ≡ true → is_some (get_or d.kinds i None) ≡ true
+  live-some l = and_right (even (generation_at d i)) (is_some (get_or d.kinds i None)) l
 
   -- the words of a live slot are a node
-  pub live-node : live_slot d i ≡ true → get_or d.kinds i none ≡ some (kind_in d i)
-  live-node l = go (get_or d.kinds i none) (live-some l)
+  pub live-node : live_slot d i ≡ true → get_or d.kinds i None ≡ Some (kind_in d i)
+  live-node l = go (get_or d.kinds i None) (live-some l)
     where
-      go : (o : Option (Kind ℕ (Option ℕ))) → is_some o ≡ true → o ≡ some (or_else root o)
-      go none e = absurd (false≢true e)
-      go (some k) e = refl
+      go : (o : Option (Kind ℕ (Option ℕ))) → is_some o ≡ true → o ≡ Some (or_else root o)
+      go None e = absurd (false≢true e)
+      go (Some k) e = refl
 
   pub odd-not-live : even (generation_at d i) ≡ false → live_slot d i ≡ false
   odd-not-live o = rw o
@@ -145,7 +145,7 @@ module _ (d : Doc) (i : ℕ) where
 module _ (d : Doc) (t : Tree) (hs : ℕ → ℕ) (S : Sim d t hs) where
   -- a slot of even generation holds a node
   pub even-live : (i : ℕ) → even (generation_at d i) ≡ true → live_slot d i ≡ true
-  even-live i e = and_both (even (generation_at d i)) (is_some (get_or d.kinds i none)) e (S.nodes i e)
+  even-live i e = and_both (even (generation_at d i)) (is_some (get_or d.kinds i None)) e (S.nodes i e)
 
   pub birth-below : (b : ℕ) → t.live b ≡ true → handle_index (hs b) < length d.gens
   birth-below b lb = live-below d (handle_index (hs b)) (S.lives b lb)
@@ -180,18 +180,18 @@ module _ (d : Doc) (t : Tree) (hs : ℕ → ℕ) (S : Sim d t hs) where
 
   -- what the search finds, or that there is nothing to find
   abbrev Found : ℕ → ℕ → Type 0
-  Found h n = (b : ℕ) × (live_below t.live hs h n ≡ some b) × (t.live b ≡ true) × (hs b ≡ h)
+  Found h n = (b : ℕ) × (live_below t.live hs h n ≡ Some b) × (t.live b ≡ true) × (hs b ≡ h)
 
   abbrev Missing : ℕ → ℕ → Type 0
-  Missing h n = (live_below t.live hs h n ≡ none) × ((b : ℕ) → b < n → t.live b ≡ true → hs b ≢ h)
+  Missing h n = (live_below t.live hs h n ≡ None) × ((b : ℕ) → b < n → t.live b ≡ true → hs b ≢ h)
 
   found_below : (h n : ℕ) → Found h n ⊎ Missing h n
   found_below h zero = inr (refl, λ b lt. absurd (omega arith))
   found_below h (suc n) = go (found_below h n) (t.live n && eqb (hs n) h) refl
     where
       go : Found h n ⊎ Missing h n → (q : Bool) → (t.live n && eqb (hs n) h) ≡ q
-          → ((b : ℕ) × (cond q (some n) (live_below t.live hs h n) ≡ some b) × (t.live b ≡ true) × (hs b ≡ h))
-          ⊎ ((cond q (some n) (live_below t.live hs h n) ≡ none) × ((b : ℕ) → b < suc n → t.live b ≡ true → hs b ≢ h))
+          → ((b : ℕ) × (cond q (Some n) (live_below t.live hs h n) ≡ Some b) × (t.live b ≡ true) × (hs b ≡ h))
+          ⊎ ((cond q (Some n) (live_below t.live hs h n) ≡ None) × ((b : ℕ) → b < suc n → t.live b ≡ true → hs b ≢ h))
       go ih true e =
           inl (n, refl, and_left (t.live n) (eqb (hs n) h) e, eqb-true (hs n) h (and_right (t.live n) (eqb (hs n) h) e))
       go (inl ih) false e = inl ih
@@ -202,22 +202,22 @@ module _ (d : Doc) (t : Tree) (hs : ℕ → ℕ) (S : Sim d t hs) where
               true≢false (sym (and_both (t.live n) (eqb (hs n) h) (ap t.live (sym q) ∙ lb) (eq-eqb (hs n) h (ap hs (sym q) ∙ f))) ∙ e)
           last b lt lb (no m) = ih.1 b (omega arith) lb
 
-  pub means-live : (b : ℕ) → t.live b ≡ true → means t hs (hs b) ≡ some b
+  pub means-live : (b : ℕ) → t.live b ≡ true → means t hs (hs b) ≡ Some b
   means-live b lb = go (found_below (hs b) t.births)
     where
-      go : Found (hs b) t.births ⊎ Missing (hs b) t.births → means t hs (hs b) ≡ some b
-      go (inl o) = o.1 ∙ ap {B = Option ℕ} some (hs-injective o.0 b o.2 lb o.3)
+      go : Found (hs b) t.births ⊎ Missing (hs b) t.births → means t hs (hs b) ≡ Some b
+      go (inl o) = o.1 ∙ ap {B = Option ℕ} Some (hs-injective o.0 b o.2 lb o.3)
       go (inr o) = absurd (o.1 b (S.counted b lb) lb refl)
 
-  pub means-none : (h : ℕ) → resolves d h ≡ false → means t hs h ≡ none
+  pub means-none : (h : ℕ) → resolves d h ≡ false → means t hs h ≡ None
   means-none h r = go (found_below h t.births)
     where
-      go : Found h t.births ⊎ Missing h t.births → means t hs h ≡ none
+      go : Found h t.births ⊎ Missing h t.births → means t hs h ≡ None
       go (inl o) = absurd (true≢false (sym (ap (resolves d) (sym o.3) ∙ resolves-live o.0 o.2) ∙ r))
       go (inr o) = o.0
 
   -- a handle is that of a live birth, or stale on both sides
-  pub by-handle : (P : ℕ → Type 0) → ((b : ℕ) → t.live b ≡ true → P (hs b)) → ((h : ℕ) → means t hs h ≡ none → resolves d h ≡ false → P h)
+  pub by-handle : (P : ℕ → Type 0) → ((b : ℕ) → t.live b ≡ true → P (hs b)) → ((h : ℕ) → means t hs h ≡ None → resolves d h ≡ false → P h)
       → (h : ℕ) → P h
   by-handle P live stale h = go (resolves d h) refl
     where

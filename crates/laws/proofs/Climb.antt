@@ -1,9 +1,10 @@
 -- Walking up: the path to the top has no node twice, so as many steps as there are births are enough for `above`.
 -- Assumes nothing.
+use Rattle.std.proofs.lemmas.Option.{none-some, same_Some}
+use Rattle.std.specs.Prelude.{Option, Some}
 use mathlib.Core.Path.{◌≡◌, refl, sym, ap, ◌∙◌, subst}
 use mathlib.Core.Logic.{◌⊎◌, inl, inr}
 use mathlib.Core.Bool.{true, false, true≢false}
-use mathlib.Core.Option.{Option, some, none-ne-some, some-injective}
 use mathlib.Core.List.Memᴰ
 use mathlib.Core.List.{List, [], ◌∷◌, Memᴰ}
 use Prim.Native.Nat.{ℕ, zero, suc, ◌≤◌, ◌<◌}
@@ -32,7 +33,7 @@ module _ {parent : ℕ → Option ℕ} where
   length-path (Ends.top e) = refl
   length-path (Ends.up p e r) = ap suc (length-path r)
 
-  pub steps_up : (x k : ℕ) (r : Ends parent x) (e : parent k ≡ some x) → steps (Ends.up x e r) ≡ suc (steps r)
+  pub steps_up : (x k : ℕ) (r : Ends parent x) (e : parent k ≡ Some x) → steps (Ends.up x e r) ≡ suc (steps r)
   unfolding steps
   steps_up x k r e = refl
 
@@ -45,9 +46,9 @@ module _ {parent : ℕ → Option ℕ} where
   pub steps-unique : {x y : ℕ} (r : Ends parent x) (s : Ends parent y) → x ≡ y → steps r ≡ steps s
   unfolding steps
   steps-unique {x} {y} (Ends.top e) (Ends.top f) q = refl
-  steps-unique {x} {y} (Ends.top e) (Ends.up p f s) q = absurd (none-ne-some p (sym e ∙ ap parent q ∙ f))
-  steps-unique {x} {y} (Ends.up p e r) (Ends.top f) q = absurd (none-ne-some p (sym f ∙ ap parent (sym q) ∙ e))
-  steps-unique {x} {y} (Ends.up p e r) (Ends.up p' f s) q = ap suc (steps-unique r s (some-injective p p' (sym e ∙ ap parent q ∙ f)))
+  steps-unique {x} {y} (Ends.top e) (Ends.up p f s) q = absurd (none-some p (sym e ∙ ap parent q ∙ f))
+  steps-unique {x} {y} (Ends.up p e r) (Ends.top f) q = absurd (none-some p (sym f ∙ ap parent (sym q) ∙ e))
+  steps-unique {x} {y} (Ends.up p e r) (Ends.up p' f s) q = ap suc (steps-unique r s (same_Some p p' (sym e ∙ ap parent q ∙ f)))
 
   pub from-path : {x y : ℕ} (r : Ends parent x) → Memᴰ y (path r) → (s : Ends parent y) × (steps s ≤ steps r)
   unfolding path steps
@@ -94,7 +95,7 @@ module _ {parent : ℕ → Option ℕ} where
 -- y is x or below it
 pub data Below (parent : ℕ → Option ℕ) (x : ℕ) : ℕ → Type 0 where
   here : {y : ℕ} → y ≡ x → Below parent x y
-  down : {y : ℕ} (p : ℕ) → parent y ≡ some p → Below parent x p → Below parent x y
+  down : {y : ℕ} (p : ℕ) → parent y ≡ Some p → Below parent x p → Below parent x y
 
 module _ {parent : ℕ → Option ℕ} where
   pub path-below : (b : ℕ) {x : ℕ} (r : Ends parent x) → Memᴰ b (path r) → Below parent b x
@@ -112,30 +113,30 @@ module _ {parent : ℕ → Option ℕ} where
 
   pub clear-below : {b x : ℕ} → Clear parent b x → Below parent b x → ⊥
   clear-below (Clear.top n e) (Below.here q) = n q
-  clear-below (Clear.top n e) (Below.down p f r) = none-ne-some p (sym e ∙ f)
+  clear-below (Clear.top n e) (Below.down p f r) = none-some p (sym e ∙ f)
   clear-below (Clear.up q n e c) (Below.here f) = n f
   clear-below {b} (Clear.up q n e c) (Below.down p f r) =
-      clear-below c (subst (λ (z : ℕ). Below parent b z) (some-injective p q (sym f ∙ e)) r)
+      clear-below c (subst (λ (z : ℕ). Below parent b z) (same_Some p q (sym f ∙ e)) r)
 
   pub below_steps : {k y : ℕ} → Below parent k y → (rk : Ends parent k) (ry : Ends parent y) → steps rk ≤ steps ry
   unfolding steps
   below_steps (Below.here e) rk ry = let q = steps-unique ry rk e in omega arith
-  below_steps (Below.down p e b) rk (Ends.top f) = absurd (none-ne-some p (sym f ∙ e))
+  below_steps (Below.down p e b) rk (Ends.top f) = absurd (none-some p (sym f ∙ e))
   below_steps {k} (Below.down p e b) rk (Ends.up p' f r) =
-      let z : p' ≡ p = some-injective p' p (sym f ∙ e) in
+      let z : p' ≡ p = same_Some p' p (sym f ∙ e) in
       let r' : Ends parent p = subst (λ (z : ℕ). Ends parent z) z r in
       let q = below_steps b rk r' in
       let u = steps-unique r r' z in
       omega arith
 
   -- a node below j is deeper than j
-  below-deeper : (k j : ℕ) {y : ℕ} → y ≡ k → (p : ℕ) → parent y ≡ some p → Below parent j p
+  below-deeper : (k j : ℕ) {y : ℕ} → y ≡ k → (p : ℕ) → parent y ≡ Some p → Below parent j p
       → (rk : Ends parent k) (rj : Ends parent j) (ry : Ends parent y) → steps rk ≡ steps rj → ⊥
   unfolding steps
-  below-deeper k j e p f b rk rj (Ends.top g) q = none-ne-some p (sym g ∙ f)
+  below-deeper k j e p f b rk rj (Ends.top g) q = none-some p (sym g ∙ f)
   below-deeper k j e p f b rk rj (Ends.up p' g r) q =
       let u = steps-unique (Ends.up p' g r) rk e in
-      let v = below_steps (subst (λ (z : ℕ). Below parent j z) (some-injective p p' (sym f ∙ g)) b) rj r in
+      let v = below_steps (subst (λ (z : ℕ). Below parent j z) (same_Some p p' (sym f ∙ g)) b) rj r in
       omega arith
 
   -- of two nodes above y at one depth there is one
@@ -144,10 +145,10 @@ module _ {parent : ℕ → Option ℕ} where
   below-unique (Below.here e) (Below.here f) rk rj ry q = sym e ∙ f
   below-unique {k} {j} (Below.here e) (Below.down p f b) rk rj ry q = absurd (below-deeper k j e p f b rk rj ry q)
   below-unique {k} {j} (Below.down p f b) (Below.here e) rk rj ry q = absurd (below-deeper j k e p f b rj rk ry (sym q))
-  below-unique {k} {j} (Below.down p f b) (Below.down p' f' b') rk rj (Ends.top g) q = absurd (none-ne-some p (sym g ∙ f))
+  below-unique {k} {j} (Below.down p f b) (Below.down p' f' b') rk rj (Ends.top g) q = absurd (none-some p (sym g ∙ f))
   below-unique {k} {j} (Below.down p f b) (Below.down p' f' b') rk rj (Ends.up z g r) q =
-      below-unique b (subst (λ (z : ℕ). Below parent j z) (some-injective p' p (sym f' ∙ f)) b') rk rj
-      (subst (λ (z : ℕ). Ends parent z) (some-injective z p (sym g ∙ f)) r) q
+      below-unique b (subst (λ (z : ℕ). Below parent j z) (same_Some p' p (sym f' ∙ f)) b') rk rj
+      (subst (λ (z : ℕ). Ends parent z) (same_Some z p (sym g ∙ f)) r) q
 
 -- ---- in a nested tree
 

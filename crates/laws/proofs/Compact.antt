@@ -1,9 +1,9 @@
 -- Rebuilding the arenas changes no list: the tree is as it was, and its order is renewed.
 -- Assumes nothing.
+use Rattle.std.specs.Prelude.{Option, None, Some}
 use mathlib.Core.Path.{◌≡◌, refl, sym, ap, ◌∙◌, subst}
 use mathlib.Core.Logic.{◌⊎◌, inl, inr}
 use mathlib.Core.Bool.{Bool, true, false, cond, ◌&&◌, false≢true, true≢false}
-use mathlib.Core.Option.{Option, none, some}
 use mathlib.Core.List.{List, [], ◌∷◌, map, Memᴰ}
 use Prim.Native.Nat.{ℕ, ◌≤◌, ◌<◌}
 use native.Mathlib.Omega.{arith}
@@ -167,7 +167,7 @@ module _ {d : Doc} {t : Tree} {hs : ℕ → ℕ} (S : Sim d t hs) (W : WF t) whe
   unlaid : (w : Which) (i : ℕ) → (Memᴰ i (laid_slots w) → ⊥) → range_of (laying d w) i ≡ range_in d w i
   unlaid w i n = ap (λ (a : Laying). range_of a i) (laying-is w) ∙ laid_all-other (list_in d w) (laid_slots w) (laying_from d w) i n
 
-  unused-after : (w : Which) (i : ℕ) (k : Kind ℕ (Option ℕ)) → get_or d.kinds i none ≡ some k → has_range w k ≡ false → range_of (laying d w) i ≡ block 0 0
+  unused-after : (w : Which) (i : ℕ) (k : Kind ℕ (Option ℕ)) → get_or d.kinds i None ≡ Some k → has_range w k ≡ false → range_of (laying d w) i ≡ block 0 0
   unused-after w i k e r = unlaid w i (λ m. true≢false (sym (slots-live w i m).1 ∙ ap (λ (o : Option (Kind ℕ (Option ℕ))). has_range w (or_else root o)) e ∙ r)) ∙ S.shape.unused w i k e r
 
   -- a live node has its list laid, or its range is (0, 0) before and after

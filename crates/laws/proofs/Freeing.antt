@@ -1,8 +1,8 @@
 -- Generations, the free list, the pool and the blocks after a list of nodes was freed.
 -- Assumes nothing.
+use Rattle.std.specs.Prelude.{Option, None, Some}
 use mathlib.Core.Path.{◌≡◌, refl, sym, ap, ◌∙◌, subst}
 use mathlib.Core.Logic.{◌≢◌, ◌⊎◌, inl, inr}
-use mathlib.Core.Option.{Option, none, some}
 use mathlib.Core.List.Memᴰ
 use mathlib.Core.List.{List, [], ◌∷◌, ◌++◌, map, reverse, reverse_aux, append_assoc, Memᴰ}
 use Prim.Native.Nat.{ℕ, ◌+◌, ◌≤◌, ◌<◌}
@@ -119,8 +119,8 @@ Texts = List (Option ℕ)
 
 pub slots_held-append : (a b : List (Option ℕ)) → slots_held (a ++ b) ≡ slots_held a ++ slots_held b
 slots_held-append [] b = refl
-slots_held-append (none ∷ a) b = slots_held-append a b
-slots_held-append (some s ∷ a) b = ap (λ (l : List ℕ). s ∷ l) (slots_held-append a b)
+slots_held-append (None ∷ a) b = slots_held-append a b
+slots_held-append (Some s ∷ a) b = ap (λ (l : List ℕ). s ∷ l) (slots_held-append a b)
 
 -- the text slots of a list of nodes
 pub slots_held-joined : (f : ℕ → List (Option ℕ)) (hs : ℕ → ℕ) (l : List ℕ) → slots_held (joined f (map hs l)) ≡ joined (λ x. slots_held (f (hs x))) l
@@ -131,39 +131,39 @@ slots_held-joined f hs (x ∷ l) =
 pub length-released_all : (l : Texts) (p : Pool) → length (released_all p l).texts ≡ length p.texts
 unfolding released
 length-released_all [] p = refl
-length-released_all (none ∷ l) p = length-released_all l p
-length-released_all (some s ∷ l) p = length-released_all l (released p (some s)) ∙ length-set p.texts s []
+length-released_all (None ∷ l) p = length-released_all l p
+length-released_all (Some s ∷ l) p = length-released_all l (released p (Some s)) ∙ length-set p.texts s []
 
 -- every text that is not released is as before
 pub released_all-other : (l : Texts) (p : Pool) (s : ℕ) → (Memᴰ s (slots_held l) → ⊥) → get_or (released_all p l).texts s [] ≡ get_or p.texts s []
 unfolding released
 released_all-other [] p s n = refl
-released_all-other (none ∷ l) p s n = released_all-other l p s n
-released_all-other (some x ∷ l) p s n =
-    released_all-other l (released p (some x)) s (λ m. n (Memᴰ.tail m)) ∙ get_or-set_other p.texts x s [] [] (λ e. n (Memᴰ.head e))
+released_all-other (None ∷ l) p s n = released_all-other l p s n
+released_all-other (Some x ∷ l) p s n =
+    released_all-other l (released p (Some x)) s (λ m. n (Memᴰ.tail m)) ∙ get_or-set_other p.texts x s [] [] (λ e. n (Memᴰ.head e))
 
 -- a text that is released is empty, and so is one that was empty
 pub released_all-empty : (l : Texts) (p : Pool) (s : ℕ) → Memᴰ s (slots_held l) ⊎ (get_or p.texts s [] ≡ []) → get_or (released_all p l).texts s [] ≡ []
 unfolding released
 released_all-empty [] p s (inl m) = absurd (Memᴰ.not-nil m)
 released_all-empty [] p s (inr e) = e
-released_all-empty (none ∷ l) p s h = released_all-empty l p s h
-released_all-empty (some x ∷ l) p s h = released_all-empty l (released p (some x)) s (go (ℕ_discrete s x) h)
+released_all-empty (None ∷ l) p s h = released_all-empty l p s h
+released_all-empty (Some x ∷ l) p s h = released_all-empty l (released p (Some x)) s (go (ℕ_discrete s x) h)
   where
-    tail : s ≢ x → (s ≡ x) ⊎ Memᴰ s (slots_held l) → Memᴰ s (slots_held l) ⊎ (get_or (released p (some x)).texts s [] ≡ [])
+    tail : s ≢ x → (s ≡ x) ⊎ Memᴰ s (slots_held l) → Memᴰ s (slots_held l) ⊎ (get_or (released p (Some x)).texts s [] ≡ [])
     tail n (inl e) = absurd (n e)
     tail n (inr m) = inl m
 
-    go : Dec (s ≡ x) → Memᴰ s (slots_held (some x ∷ l)) ⊎ (get_or p.texts s [] ≡ []) → Memᴰ s (slots_held l) ⊎ (get_or (released p (some x)).texts s [] ≡ [])
-    go (yes e) h = inr (ap (λ (i : ℕ). get_or (released p (some x)).texts i []) e ∙ released-same p x)
+    go : Dec (s ≡ x) → Memᴰ s (slots_held (Some x ∷ l)) ⊎ (get_or p.texts s [] ≡ []) → Memᴰ s (slots_held l) ⊎ (get_or (released p (Some x)).texts s [] ≡ [])
+    go (yes e) h = inr (ap (λ (i : ℕ). get_or (released p (Some x)).texts i []) e ∙ released-same p x)
     go (no n) (inl m) = tail n (Memᴰ.cases_cons m)
     go (no n) (inr e) = inr (released-other p x s n ∙ e)
 
 released_all-pushed : (l : Texts) (p : Pool) → (released_all p l).free ≡ reverse_aux (slots_held l) p.free
 unfolding released
 released_all-pushed [] p = refl
-released_all-pushed (none ∷ l) p = released_all-pushed l p
-released_all-pushed (some s ∷ l) p = released_all-pushed l (released p (some s))
+released_all-pushed (None ∷ l) p = released_all-pushed l p
+released_all-pushed (Some s ∷ l) p = released_all-pushed l (released p (Some s))
 
 module _ (l : Texts) (p : Pool) where
   pub released_all-cases : (s : ℕ) → Memᴰ s (released_all p l).free → Memᴰ s p.free ⊎ Memᴰ s (slots_held l)
@@ -180,13 +180,13 @@ module _ (l : Texts) (p : Pool) where
 pub released_all-bytes : (l : Texts) (p : Pool) → length (bytes_of (released_all p l).texts) ≤ length (bytes_of p.texts)
 unfolding released
 released_all-bytes [] p = omega arith
-released_all-bytes (none ∷ l) p = released_all-bytes l p
-released_all-bytes (some s ∷ l) p =
-    let ih = released_all-bytes l (released p (some s)) in
+released_all-bytes (None ∷ l) p = released_all-bytes l p
+released_all-bytes (Some s ∷ l) p =
+    let ih = released_all-bytes l (released p (Some s)) in
     let o = one (dec_lt s (length p.texts)) in
     omega arith
   where
-    one : Dec (s < length p.texts) → length (bytes_of (released p (some s)).texts) ≤ length (bytes_of p.texts)
+    one : Dec (s < length p.texts) → length (bytes_of (released p (Some s)).texts) ≤ length (bytes_of p.texts)
     one (yes h) = omega (arith, released-bytes p s h)
     one (no h) = rw (set_out p.texts s [] (omega arith)) (omega arith)
 

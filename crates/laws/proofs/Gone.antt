@@ -1,9 +1,10 @@
 -- Freeing a node and all below it, with their texts, is the tree's `gone`.
 -- Assumes nothing.
+use Rattle.std.proofs.lemmas.Option.{none-some}
+use Rattle.std.specs.Prelude.{Option, None}
 use mathlib.Core.Path.{◌≡◌, refl, sym, ap, ◌∙◌, subst}
 use mathlib.Core.Logic.{◌≢◌, ◌⊎◌, inl, inr}
 use mathlib.Core.Bool.{Bool, true, false, not, cond, ◌&&◌, false≢true, true≢false}
-use mathlib.Core.Option.{Option, none, none-ne-some}
 use mathlib.Core.List.{List, [], map, Memᴰ}
 use Prim.Native.Nat.{ℕ, ◌%◌, ◌≤◌, ◌<◌}
 use native.Mathlib.Omega.{arith}
@@ -193,7 +194,7 @@ module _ {d : Doc} {t : Tree} {hs : ℕ → ℕ} (S : Sim d t hs) (N : Nested t)
   unfolding free_all
   gone-slot i li =
       let o = even-old i (live-even (free_all d handles) i li) in
-      (o.0, and_both (even (generation_at d i)) (is_some (get_or d.kinds i none)) o.1 (live-some (free_all d handles) i li))
+      (o.0, and_both (even (generation_at d i)) (is_some (get_or d.kinds i None)) o.1 (live-some (free_all d handles) i li))
 
   blocks-after : (w : Which) → BlocksApart (d.arenas w) (block_in (free_all d handles) w)
   unfolding free_all
@@ -212,7 +213,7 @@ module _ {d : Doc} {t : Tree} {hs : ℕ → ℕ} (S : Sim d t hs) (N : Nested t)
     where
       top : Below t.parent b 0 → ⊥
       top (Below.here e) = b0 (sym e)
-      top (Below.down p e r) = none-ne-some p (sym N.root_parent ∙ e)
+      top (Below.down p e r) = none-some p (sym N.root_parent ∙ e)
 
       go : Memᴰ 0 (freed t b) ⊎ (stays_live 0 ≡ true) → stays_live 0 ≡ true
       go (inl m) = absurd (top (freed-below N b lb 0 m).1)

@@ -1,7 +1,7 @@
 -- What an edit of parents, blocks or order words keeps of the relation: the counts, the free slots and the texts.
 -- Assumes nothing.
+use Rattle.std.specs.Prelude.{Option}
 use mathlib.Core.Bool.{Bool}
-use mathlib.Core.Option.{Option}
 use mathlib.Core.List.{List}
 use Prim.Native.Nat.{ℕ}
 use Rattle.blocks.specs.Arena.{Arena, Block}

@@ -1,8 +1,8 @@
 -- The order words: each handle of a list without repeated slots has its place in the list, every other slot keeps its word.
 -- Assumes nothing.
+use Rattle.std.specs.Prelude.{Option, None, Some}
 use mathlib.Core.Path.{◌≡◌, refl, sym, ap, ◌∙◌, subst}
 use mathlib.Core.Bool.{Bool, cond}
-use mathlib.Core.Option.{Option, none, some}
 use mathlib.Core.List.{List, [], ◌∷◌, map, Memᴰ}
 use Prim.Native.Nat.{ℕ, suc, ◌+◌, ◌≤◌, ◌<◌}
 use native.Mathlib.Omega.{arith}
@@ -38,10 +38,10 @@ keyed-fits (h ∷ l) words n f sm i = keyed-fits l (set words (handle_index h) n
 -- ---- keys
 
 abbrev first_of : Option ℕ → Option ℕ → Option ℕ
-first_of none o = o
-first_of (some k) o = some k
+first_of None o = o
+first_of (Some k) o = Some k
 
-position-none : (n x : ℕ) (l : List ℕ) → (Memᴰ x l → ⊥) → position n x l ≡ none
+position-none : (n x : ℕ) (l : List ℕ) → (Memᴰ x l → ⊥) → position n x l ≡ None
 position-none n x [] h = refl
 position-none n x (y ∷ l) h = rw (ne_eqb y x (λ e. h (Memᴰ.head (sym e)))) (position-none (suc n) x l (λ m. h (Memᴰ.tail m)))
 
@@ -60,20 +60,20 @@ module _ (hs : ℕ → ℕ) (x : ℕ) where
       k = handle_index (hs y)
 
       go : key_of (get_or (keyed (set words k n) (suc n) (map hs l)) i no_key) ≡ first_of (position (suc n) x l) (key_of (get_or (set words k n) i no_key)) → Dec (y ≡ x)
-          → key_of (get_or (keyed (set words k n) (suc n) (map hs l)) i no_key) ≡ first_of (cond (eqb y x) (some n) (position (suc n) x l)) (key_of (get_or words i no_key))
+          → key_of (get_or (keyed (set words k n) (suc n) (map hs l)) i no_key) ≡ first_of (cond (eqb y x) (Some n) (position (suc n) x l)) (key_of (get_or words i no_key))
       go ih (yes e) =
           let at : get_or (set words k n) i no_key ≡ n = ap (λ (z : ℕ). get_or (set words (handle_index (hs z)) n) i no_key) e ∙ get_or-set_same words i n no_key lt in
-          let p : position (suc n) x l ≡ none = position-none (suc n) x l (λ m. u.0 (subst (λ (z : ℕ). Memᴰ z l) (sym e) m)) in
-          let key-n : key_of n ≡ some n = rw (lt-ltb n no_key (omega arith)) in
+          let p : position (suc n) x l ≡ None = position-none (suc n) x l (λ m. u.0 (subst (λ (z : ℕ). Memᴰ z l) (sym e) m)) in
+          let key-n : key_of n ≡ Some n = rw (lt-ltb n no_key (omega arith)) in
           ih
           ∙ ap (λ (o : Option ℕ). first_of o (key_of (get_or (set words k n) i no_key))) p
           ∙ ap key_of at
           ∙ key-n
-          ∙ sym (ap (λ (q : Bool). first_of (cond q (some n) (position (suc n) x l)) (key_of (get_or words i no_key))) (eq-eqb y x e))
+          ∙ sym (ap (λ (q : Bool). first_of (cond q (Some n) (position (suc n) x l)) (key_of (get_or words i no_key))) (eq-eqb y x e))
       go ih (no m) =
           ih
           ∙ ap (λ (w : ℕ). first_of (position (suc n) x l) (key_of w)) (get_or-set_other words k i n no_key (λ e. m (inj y (Memᴰ.head refl) (sym e))))
-          ∙ sym (ap (λ (q : Bool). first_of (cond q (some n) (position (suc n) x l)) (key_of (get_or words i no_key))) (ne_eqb y x m))
+          ∙ sym (ap (λ (q : Bool). first_of (cond q (Some n) (position (suc n) x l)) (key_of (get_or words i no_key))) (ne_eqb y x m))
 
   -- where no word was a key, the keys are the places
   pub keyed-position : (l words : List ℕ) → Distinct l → ((y : ℕ) → Memᴰ y l → handle_index (hs y) ≡ handle_index (hs x) → y ≡ x)
@@ -82,5 +82,5 @@ module _ (hs : ℕ → ℕ) (x : ℕ) where
   keyed-position l words u inj lt sm none_yet = keyed-key l words 0 u inj lt (omega arith) ∙ ap (λ (w : ℕ). first_of (position 0 x l) (key_of w)) none_yet ∙ plain (position 0 x l)
     where
       plain : (o : Option ℕ) → first_of o (key_of no_key) ≡ o
-      plain none = refl
-      plain (some k) = refl
+      plain None = refl
+      plain (Some k) = refl

@@ -1,9 +1,10 @@
 -- What stands in a list after an edit of it, and that nothing stands there twice.
 -- Assumes nothing.
+use Rattle.std.proofs.lemmas.Option.{none-some, same_Some}
+use Rattle.std.specs.Prelude.{None, Some}
 use mathlib.Core.Path.{◌≡◌, refl, sym, ap, ◌∙◌, subst}
 use mathlib.Core.Logic.{◌≢◌, ◌⊎◌, inl, inr}
 use mathlib.Core.Bool.{Bool, true, false, cond, true≢false}
-use mathlib.Core.Option.{none, some, none-ne-some, some-injective}
 use mathlib.Core.List.Memᴰ
 use mathlib.Core.List.{List, [], ◌∷◌, ◌++◌, map, reverse, reverse_aux, Memᴰ}
 use Prim.Native.Nat.{ℕ, zero, suc, ◌≤◌, ◌<◌}
@@ -239,20 +240,20 @@ distinct-reverse l u = distinct-reverse_aux l [] u tt (λ y m n. Memᴰ.not-nil 
 -- ---- the first entry that passes a test
 
 module _ {A : Type 0} (p : A → Bool) where
-  pub find_none : (l : List A) → find p l ≡ none → {a : A} → Memᴰ a l → p a ≡ true → ⊥
+  pub find_none : (l : List A) → find p l ≡ None → {a : A} → Memᴰ a l → p a ≡ true → ⊥
   find_none [] e m q = Memᴰ.not-nil m
   find_none (x ∷ l) e {a} m q = go (λ f n. find_none l f n q) (p x) refl e (Memᴰ.cases_cons m)
     where
-      go : (find p l ≡ none → Memᴰ a l → ⊥) → (b : Bool) → p x ≡ b → cond b (some x) (find p l) ≡ none → (a ≡ x) ⊎ Memᴰ a l → ⊥
-      go ih true g f c = none-ne-some x (sym f)
+      go : (find p l ≡ None → Memᴰ a l → ⊥) → (b : Bool) → p x ≡ b → cond b (Some x) (find p l) ≡ None → (a ≡ x) ⊎ Memᴰ a l → ⊥
+      go ih true g f c = none-some x (sym f)
       go ih false g f (inl c) = true≢false (sym q ∙ ap p c ∙ g)
       go ih false g f (inr c) = ih f c
 
-  pub find-some : (l : List A) (x : A) → find p l ≡ some x → Memᴰ x l × (p x ≡ true)
-  find-some [] x e = absurd (none-ne-some x e)
+  pub find-some : (l : List A) (x : A) → find p l ≡ Some x → Memᴰ x l × (p x ≡ true)
+  find-some [] x e = absurd (none-some x e)
   find-some (y ∷ l) x e = go (λ f. find-some l x f) (p y) refl e
     where
-      go : (find p l ≡ some x → Memᴰ x l × (p x ≡ true)) → (b : Bool) → p y ≡ b → cond b (some y) (find p l) ≡ some x
+      go : (find p l ≡ Some x → Memᴰ x l × (p x ≡ true)) → (b : Bool) → p y ≡ b → cond b (Some y) (find p l) ≡ Some x
           → Memᴰ x (y ∷ l) × (p x ≡ true)
-      go ih true g f = let q : y ≡ x = some-injective y x f in (Memᴰ.head (sym q), ap p (sym q) ∙ g)
+      go ih true g f = let q : y ≡ x = same_Some y x f in (Memᴰ.head (sym q), ap p (sym q) ∙ g)
       go ih false g f = let o = ih f in (Memᴰ.tail o.0, o.1)

@@ -1,9 +1,9 @@
 -- One node's text slots change, or a node is added: every other node's texts and names show what they showed, and rule 8 holds again.
 -- Assumes nothing.
+use Rattle.std.specs.Prelude.{Option, Some}
 use mathlib.Core.Path.{◌≡◌, sym, ap, ◌∙◌, subst}
 use mathlib.Core.Logic.{◌≢◌, ◌⊎◌, inl, inr}
 use mathlib.Core.Bool.{true}
-use mathlib.Core.Option.{Option, some}
 use mathlib.Core.List.{List, Memᴰ}
 use Prim.Native.Nat.{ℕ, ◌≤◌, ◌<◌}
 use native.Mathlib.Omega.{arith}
@@ -28,7 +28,7 @@ module _ (d : Doc) (t : Tree) (hs : ℕ → ℕ) (d' : Doc) (b : ℕ) (old new :
     (mine : (s : ℕ) → Memᴰ s old → (t.live b ≡ true) × Memᴰ s (fields d (hs b)))
     (all : t.live b ≡ true → (s : ℕ) → Memᴰ s (fields d (hs b)) → Memᴰ s old) where
   -- another node's text
-  pub other_text : Pooled d t hs → (a s : ℕ) → t.live a ≡ true → a ≢ b → Memᴰ s (fields d (hs a)) → text_at d'.pool (some s) ≡ text_at d.pool (some s)
+  pub other_text : Pooled d t hs → (a s : ℕ) → t.live a ≡ true → a ≢ b → Memᴰ s (fields d (hs a)) → text_at d'.pool (Some s) ≡ text_at d.pool (Some s)
   other_text P a s la n m =
       R.same s (P.inside a s la m) (λ f. P.free_apart a s la m f)
       (λ e. let o = mine s (R.mine s e) in n (P.single a b s la o.0 m o.1))

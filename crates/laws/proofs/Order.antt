@@ -1,9 +1,10 @@
 -- Renewing the order: the document's words are the places in the tree's document order.
 -- Assumes nothing.
+use Rattle.std.proofs.lemmas.Option.{none-some, same_Some}
+use Rattle.std.specs.Prelude.{Some}
 use mathlib.Core.Path.{◌≡◌, refl, sym, ap, ap₂, ◌∙◌, subst}
 use mathlib.Core.Logic.{◌⊎◌, inl, inr}
 use mathlib.Core.Bool.{true, false, true≢false}
-use mathlib.Core.Option.{some, none-ne-some, some-injective}
 use mathlib.Core.List.Memᴰ
 use mathlib.Core.List.{List, [], ◌∷◌, ◌++◌, map, append_assoc, Memᴰ}
 use Prim.Native.Nat.{ℕ, zero, suc, ◌+◌, ◌-◌, ◌≤◌, ◌<◌}
@@ -61,7 +62,7 @@ in-order ls (suc f) x =
     ∙ append_assoc (ls namespaces x) (ls attributes x) (joined (λ y. in_order f ls y) (ls children x)))
 
 module _ {t : Tree} (N : Nested t) where
-  pub child-kid : (x y : ℕ) → t.live x ≡ true → Memᴰ y (t.lists children x) → (t.live y ≡ true) × (t.parent y ≡ some x)
+  pub child-kid : (x y : ℕ) → t.live x ≡ true → Memᴰ y (t.lists children x) → (t.live y ≡ true) × (t.parent y ≡ Some x)
   child-kid x y lx m = let o = N.downward children x y lx m in (o.0, o.1)
 
   pub child-once : (x : ℕ) → t.live x ≡ true → Distinct (t.lists children x)
@@ -115,8 +116,8 @@ module _ {t : Tree} (N : Nested t) where
       let o = N.downward w k y lk n in
       go o.1 o.2 (visited-child t.births 0 y N.root_live m)
     where
-      go : t.parent y ≡ some k → which_of (t.kind y) ≡ w → (y ≡ 0) ⊎ (which_of (t.kind y) ≡ children) → ⊥
-      go p e (inl z) = none-ne-some k (sym N.root_parent ∙ ap t.parent (sym z) ∙ p)
+      go : t.parent y ≡ Some k → which_of (t.kind y) ≡ w → (y ≡ 0) ⊎ (which_of (t.kind y) ≡ children) → ⊥
+      go p e (inl z) = none-some k (sym N.root_parent ∙ ap t.parent (sym z) ∙ p)
       go p e (inr c) = nc (sym e ∙ c)
 
   entries-once : Distinct (joined (with_own t.lists) in_document)
@@ -142,7 +143,7 @@ module _ {t : Tree} (N : Nested t) where
           go (inl e) (inr f) = absurd (not-owned y j (subst (λ (z : ℕ). Memᴰ z in_document) (sym e) mk) (document-live j mj) f.0 f.1 f.2)
           go (inr e) (inl f) = absurd (not-owned y k (subst (λ (z : ℕ). Memᴰ z in_document) (sym f) mj) (document-live k mk) e.0 e.1 e.2)
           go (inr e) (inr f) =
-              some-injective k j (sym (N.downward e.0 k y (document-live k mk) e.1).1 ∙ (N.downward f.0 j y (document-live j mj) f.1).1)
+              same_Some k j (sym (N.downward e.0 k y (document-live k mk) e.1).1 ∙ (N.downward f.0 j y (document-live j mj) f.1).1)
 
   entries-live : (y : ℕ) → Memᴰ y (joined (with_own t.lists) in_document) → t.live y ≡ true
   entries-live y m =

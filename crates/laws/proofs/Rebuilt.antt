@@ -1,9 +1,10 @@
 -- What `compact` visits: the handles of the live births that stand in lists of children or have no parent, each once.
 -- Assumes nothing.
+use Rattle.std.proofs.lemmas.Option.{none-some, same_Some}
+use Rattle.std.specs.Prelude.{Option, None, Some}
 use mathlib.Core.Path.{◌≡◌, refl, sym, ap, ap₂, ◌∙◌, subst}
 use mathlib.Core.Logic.{◌⊎◌, inl, inr}
 use mathlib.Core.Bool.{Bool, true, false, cond, false≢true, true≢false}
-use mathlib.Core.Option.{Option, none, some, none-ne-some, some-injective}
 use mathlib.Core.List.{List, [], ◌∷◌, ◌++◌, map, Memᴰ}
 use Prim.Native.Nat.{ℕ}
 use lib.ListN.{length}
@@ -144,12 +145,12 @@ module _ {d : Doc} {t : Tree} {hs : ℕ → ℕ} (S : Sim d t hs) where
 -- ---- below parentless nodes
 
 -- of two nodes without a parent that are above y there is one
-top_unique : {parent : ℕ → Option ℕ} {k j y : ℕ} → Below parent k y → Below parent j y → parent k ≡ none → parent j ≡ none → k ≡ j
+top_unique : {parent : ℕ → Option ℕ} {k j y : ℕ} → Below parent k y → Below parent j y → parent k ≡ None → parent j ≡ None → k ≡ j
 top_unique (Below.here e) (Below.here f) tk tj = sym e ∙ f
-top_unique {parent} (Below.here e) (Below.down p f r) tk tj = absurd (none-ne-some p (sym tk ∙ ap parent (sym e) ∙ f))
-top_unique {parent} (Below.down p f r) (Below.here e) tk tj = absurd (none-ne-some p (sym tj ∙ ap parent (sym e) ∙ f))
+top_unique {parent} (Below.here e) (Below.down p f r) tk tj = absurd (none-some p (sym tk ∙ ap parent (sym e) ∙ f))
+top_unique {parent} (Below.down p f r) (Below.here e) tk tj = absurd (none-some p (sym tj ∙ ap parent (sym e) ∙ f))
 top_unique {parent} {k} {j} (Below.down p f r) (Below.down q g s) tk tj =
-    top_unique r (subst (λ (z : ℕ). Below parent j z) (some-injective q p (sym g ∙ f)) s) tk tj
+    top_unique r (subst (λ (z : ℕ). Below parent j z) (same_Some q p (sym g ∙ f)) s) tk tj
 
 pub container-child : {N T : Type 0} (k : Kind N T) → is_container k ≡ true → which_of k ≡ children
 container-child root e = refl
@@ -161,12 +162,12 @@ container-child (namespace p u) e = absurd (false≢true e)
 container-child (instruction t d) e = refl
 
 is_none-map : (hs : ℕ → ℕ) (o : Option ℕ) → is_none (map_option hs o) ≡ is_none o
-is_none-map hs none = refl
-is_none-map hs (some p) = refl
+is_none-map hs None = refl
+is_none-map hs (Some p) = refl
 
-none_of : (o : Option ℕ) → is_none o ≡ true → o ≡ none
-none_of none e = refl
-none_of (some p) e = absurd (false≢true e)
+none_of : (o : Option ℕ) → is_none o ≡ true → o ≡ None
+none_of None e = refl
+none_of (Some p) e = absurd (false≢true e)
 
 module _ {d : Doc} {t : Tree} {hs : ℕ → ℕ} (S : Sim d t hs) (W : WF t) where
   N : Nested t
@@ -175,7 +176,7 @@ module _ {d : Doc} {t : Tree} {hs : ℕ → ℕ} (S : Sim d t hs) (W : WF t) whe
   abbrev top_births : List ℕ
   top_births = keep (λ b. is_none (t.parent b)) (live-births S).births
 
-  top-facts : (b : ℕ) → Memᴰ b top_births → (t.live b ≡ true) × (t.parent b ≡ none)
+  top-facts : (b : ℕ) → Memᴰ b top_births → (t.live b ≡ true) × (t.parent b ≡ None)
   top-facts b m =
       let o = mem-keep-old (λ b. is_none (t.parent b)) (live-births S).births m in
       ((live-births S).live b o.0, none_of (t.parent b) o.1)

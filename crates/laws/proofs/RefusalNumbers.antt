@@ -3,13 +3,12 @@
 use mathlib.Core.Path.{◌≡◌, refl, ap}
 use mathlib.Core.Logic.{◌≢◌}
 use mathlib.Core.Bool.{Bool, true, false, not, cond, ◌&&◌, true≢false}
-use mathlib.Core.Option.{Option, none, some}
 use mathlib.Core.List.{List, [], ◌∷◌}
 use Prim.Native.Nat.{ℕ, zero, suc}
 use native.Mathlib.Omega.{arith}
-use Rattle.chars.specs.declared.Check.{Check}
-use Rattle.chars.specs.declared.Check.TheVariants.{Passed, NotUtf8, InvalidName, InvalidText}
-use Rattle.chars.specs.Checks.{number_of, on_text, on_texts, of_text, check_prefix, check_text, check_comment, check_pi, check_namespace, check_namespace_binding}
+use Rattle.std.specs.Prelude.{Ok, Err, Option, None, Some}
+use Rattle.chars.specs.declared.Fault.TheVariants.{NotUtf8, InvalidName, InvalidText}
+use Rattle.chars.specs.Checks.{Check, number_of, on_text, on_texts, of_text, check_prefix, check_text, check_comment, check_pi, check_namespace, check_namespace_binding}
 use Rattle.chars.specs.Classes.{class_of, is_nc_name}
 use Rattle.words.specs.Lists.{all}
 use Rattle.names.specs.Table.{Name, name}
@@ -23,8 +22,7 @@ use Rattle.blocks.specs.Arena.{Block, block}
 use lib.ListN.{length, get_or}
 use Rattle.model.specs.Arguments.{refuse_if, first, is_utf8, not_utf8, name_check, namespace_check, binding_check, prefix_check, text_check, comment_check, instruction_check, space_only, is_xmlns}
 use Rattle.model.specs.Checks.{View, container, an_element, a_child, a_text, text_under, moved_text, stored_text, is_empty, check_append_element, check_append_text, check_append_comment, check_append_pi, check_set_text, check_remove, check_move, undeclares_prefix}
-use Rattle.model.specs.Calls.{Answered, refused, done, made, truth, node, listed, every_node, kind_is, name_is, key, keys, Out, guarded, full_unless, step, set_attribute_found, declare_namespace_found, remove_attribute_found, find_attribute, find_namespace, order_key, key_of, shown_kind, append_one_text, move_to, root_taken, under_root, name_fits_in, text_fits, two_fit, node_fits, room_fits, replacement_fits, replaceable_at}
-use Rattle.model.specs.Calls.{Call, append-element, append-text, append-comment, append-pi, set-text, set-attribute, remove-attribute, declare-namespace, remove, detach, reparent, insert-at, document-order, compact, root-of, kind-of, parent-of, children-of, root-element, is-element, name_of, attribute-nodes, namespace-nodes, nodes, order-key}
+use Rattle.model.specs.Calls.{Answered, refused, done, made, truth, node, listed, every_node, kind_is, name_is, key, keys, Out, guarded, full_unless, step, set_attribute_found, declare_namespace_found, remove_attribute_found, find_attribute, find_namespace, order_key, key_of, shown_kind, append_one_text, move_to, root_taken, under_root, name_fits_in, text_fits, two_fit, node_fits, room_fits, replacement_fits, replaceable_at, Call, append-element, append-text, append-comment, append-pi, set-text, set-attribute, remove-attribute, declare-namespace, remove, detach, reparent, insert-at, document-order, compact, root-of, kind-of, parent-of, children-of, root-element, is-element, name_of, attribute-nodes, namespace-nodes, nodes, order-key}
 
 -- a number that is neither 4 nor 5, and 6 only where S
 abbrev Other : Type 0 → ℕ → Type 0
@@ -43,10 +41,10 @@ module _ {S : Type 0} where
   refuse-other false n p = zero-other
 
   check-other : (c : Check) → Other S (number_of c)
-  check-other Passed = zero-other
-  check-other NotUtf8 = (λ e. omega arith, λ e. omega arith, λ e. absurd (omega arith))
-  check-other InvalidName = (λ e. omega arith, λ e. omega arith, λ e. absurd (omega arith))
-  check-other InvalidText = (λ e. omega arith, λ e. omega arith, λ e. absurd (omega arith))
+  check-other (Ok u) = zero-other
+  check-other (Err NotUtf8) = (λ e. omega arith, λ e. omega arith, λ e. absurd (omega arith))
+  check-other (Err InvalidName) = (λ e. omega arith, λ e. omega arith, λ e. absurd (omega arith))
+  check-other (Err InvalidText) = (λ e. omega arith, λ e. omega arith, λ e. absurd (omega arith))
 
   utf8-other : (l : List (List ℕ)) → Other S (not_utf8 l)
   utf8-other l = refuse-other (not (all is_utf8 l)) 1 (λ e. omega arith, λ e. omega arith, λ e. absurd (omega arith))
@@ -81,42 +79,42 @@ module _ {S : Type 0} where
 
   -- ---- what the checks see
 
-  container-other : (v : View) → (v ≡ none → S) → Other S (container v)
-  container-other none z = (λ e. omega arith, λ e. omega arith, λ e. z refl)
-  container-other (some k) z = refuse-other (not (is_container k)) 8 (λ e. omega arith, λ e. omega arith, λ e. absurd (omega arith))
+  container-other : (v : View) → (v ≡ None → S) → Other S (container v)
+  container-other None z = (λ e. omega arith, λ e. omega arith, λ e. z refl)
+  container-other (Some k) z = refuse-other (not (is_container k)) 8 (λ e. omega arith, λ e. omega arith, λ e. absurd (omega arith))
 
-  element-other : (v : View) → (v ≡ none → S) → Other S (an_element v)
-  element-other none z = (λ e. omega arith, λ e. omega arith, λ e. z refl)
-  element-other (some k) z = refuse-other (not (is_element k)) 7 (λ e. omega arith, λ e. omega arith, λ e. absurd (omega arith))
+  element-other : (v : View) → (v ≡ None → S) → Other S (an_element v)
+  element-other None z = (λ e. omega arith, λ e. omega arith, λ e. z refl)
+  element-other (Some k) z = refuse-other (not (is_element k)) 7 (λ e. omega arith, λ e. omega arith, λ e. absurd (omega arith))
 
-  child-other : (v : View) → (v ≡ none → S) → Other S (a_child v)
-  child-other none z = (λ e. omega arith, λ e. omega arith, λ e. z refl)
-  child-other (some root) z = (λ e. omega arith, λ e. omega arith, λ e. absurd (omega arith))
-  child-other (some (element n)) z = zero-other
-  child-other (some (attribute n v)) z = (λ e. omega arith, λ e. omega arith, λ e. absurd (omega arith))
-  child-other (some (text s)) z = zero-other
-  child-other (some (comment s)) z = zero-other
-  child-other (some (namespace p u)) z = (λ e. omega arith, λ e. omega arith, λ e. absurd (omega arith))
-  child-other (some (instruction s c)) z = zero-other
+  child-other : (v : View) → (v ≡ None → S) → Other S (a_child v)
+  child-other None z = (λ e. omega arith, λ e. omega arith, λ e. z refl)
+  child-other (Some root) z = (λ e. omega arith, λ e. omega arith, λ e. absurd (omega arith))
+  child-other (Some (element n)) z = zero-other
+  child-other (Some (attribute n v)) z = (λ e. omega arith, λ e. omega arith, λ e. absurd (omega arith))
+  child-other (Some (text s)) z = zero-other
+  child-other (Some (comment s)) z = zero-other
+  child-other (Some (namespace p u)) z = (λ e. omega arith, λ e. omega arith, λ e. absurd (omega arith))
+  child-other (Some (instruction s c)) z = zero-other
 
-  a-text-other : (v : View) → (v ≡ none → S) → Other S (a_text v)
-  a-text-other none z = (λ e. omega arith, λ e. omega arith, λ e. z refl)
-  a-text-other (some k) z = refuse-other (is_none (text_of k)) 10 (λ e. omega arith, λ e. omega arith, λ e. absurd (omega arith))
+  a-text-other : (v : View) → (v ≡ None → S) → Other S (a_text v)
+  a-text-other None z = (λ e. omega arith, λ e. omega arith, λ e. z refl)
+  a-text-other (Some k) z = refuse-other (is_none (text_of k)) 10 (λ e. omega arith, λ e. omega arith, λ e. absurd (omega arith))
 
   under-other : (b : Bool) (s : List ℕ) → Other S (text_under b s)
   under-other b s = first-other (text_check s) _ (text-other s) (refuse-other (b && not (space_only s)) 3 (λ e. omega arith, λ e. omega arith, λ e. absurd (omega arith)))
 
   moved_other : (b : Bool) (o : Option (List ℕ)) → Other S (moved_text b o)
-  moved_other b none = zero-other
-  moved_other b (some s) = go (is_utf8 s)
+  moved_other b None = zero-other
+  moved_other b (Some s) = go (is_utf8 s)
     where
       go : (q : Bool) → Other S (cond q (text_under b s) 3)
       go true = under-other b s
       go false = (λ e. omega arith, λ e. omega arith, λ e. absurd (omega arith))
 
-  remove-other : (v : View) → (v ≡ none → S) → Other S (check_remove v)
-  remove-other none z = (λ e. omega arith, λ e. omega arith, λ e. z refl)
-  remove-other (some k) z = refuse-other (is_root k) 11 (λ e. omega arith, λ e. omega arith, λ e. absurd (omega arith))
+  remove-other : (v : View) → (v ≡ None → S) → Other S (check_remove v)
+  remove-other None z = (λ e. omega arith, λ e. omega arith, λ e. z refl)
+  remove-other (Some k) z = refuse-other (is_root k) 11 (λ e. omega arith, λ e. omega arith, λ e. absurd (omega arith))
 
   full-other : (fits : Bool) → Other S (full_unless fits)
   full-other fits = refuse-other (not fits) 14 (λ e. omega arith, λ e. omega arith, λ e. absurd (omega arith))
@@ -144,16 +142,16 @@ module _ (S : Type 0) where
   guarded-tested (suc n) d o p q = p
 
   attribute-tested : (f : Option ℕ) (d : Doc) (e : ℕ) (n : Name) (s : List ℕ) → Tested S (set_attribute_found f d e n s).answer
-  attribute-tested none d e n s = guarded-tested _ d _ (full-other (name_fits_in d n && (text_fits d (slots_for s) 0 (length s) && node_fits d attributes e))) (tt {0})
-  attribute-tested (some a) d e n s = guarded-tested _ d _ (full-other (replacement_fits d (replaceable_at d a) s)) (tt {0})
+  attribute-tested None d e n s = guarded-tested _ d _ (full-other (name_fits_in d n && (text_fits d (slots_for s) 0 (length s) && node_fits d attributes e))) (tt {0})
+  attribute-tested (Some a) d e n s = guarded-tested _ d _ (full-other (replacement_fits d (replaceable_at d a) s)) (tt {0})
 
   declared-tested : (f : Option ℕ) (d : Doc) (e : ℕ) (p u : List ℕ) → Tested S (declare_namespace_found f d e p u).answer
-  declared-tested none d e p u = guarded-tested _ d _ (full-other (two_fit d p u && node_fits d namespaces e)) (tt {0})
-  declared-tested (some a) d e p u = guarded-tested _ d _ (full-other (replacement_fits d (replaceable_at d a) u)) (tt {0})
+  declared-tested None d e p u = guarded-tested _ d _ (full-other (two_fit d p u && node_fits d namespaces e)) (tt {0})
+  declared-tested (Some a) d e p u = guarded-tested _ d _ (full-other (replacement_fits d (replaceable_at d a) u)) (tt {0})
 
   removed-tested : (f : Option ℕ) (d : Doc) → Tested S (remove_attribute_found f d).answer
-  removed-tested none d = tt
-  removed-tested (some a) d = tt
+  removed-tested None d = tt
+  removed-tested (Some a) d = tt
 
   key-tested : (d : Doc) (h : ℕ) → Tested S (order_key d h)
   key-tested d h = go (resolves d h) d.current
@@ -161,13 +159,13 @@ module _ (S : Type 0) where
       shown : Option ℕ
       shown = key_of (get_or d.order (handle_index h) no_key)
 
-      go : (r c : Bool) → Tested S (cond r (cond c (key shown) (refused 15)) (key none))
+      go : (r c : Bool) → Tested S (cond r (cond c (key shown) (refused 15)) (key None))
       go true true = tt
       go true false = (λ e. omega arith, λ e. omega arith, λ e. absurd (omega arith))
       go false c = tt
 
   -- a move's checks
-  move-other : (child parent : View) → (child ≡ none → S) → (parent ≡ none → S) → (cycle taken : Bool) → Other S (check_move child parent cycle taken)
+  move-other : (child parent : View) → (child ≡ None → S) → (parent ≡ None → S) → (cycle taken : Bool) → Other S (check_move child parent cycle taken)
   move-other child parent p q cycle taken =
       first-other (a_child child) _ (child-other child p)
       (first-other (container parent) _ (container-other parent q)
@@ -176,11 +174,11 @@ module _ (S : Type 0) where
       (refuse-other (any_option is_root parent && (any_option is_element child && taken)) 12 (λ e. omega arith, λ e. omega arith, λ e. absurd (omega arith)))
       (moved_other (any_option is_root parent) (stored_text child)))))
 
-  move-tested : (d : Doc) (p : ℕ) (at : Option ℕ) (c : ℕ) → (view_at d c ≡ none → S) → (view_at d p ≡ none → S) → Tested S (move_to d p at c).answer
+  move-tested : (d : Doc) (p : ℕ) (at : Option ℕ) (c : ℕ) → (view_at d c ≡ None → S) → (view_at d p ≡ None → S) → Tested S (move_to d p at c).answer
   move-tested d p at c x y =
       guarded-tested _ d _
-      (first-other (check_move (view_at d c) (view_at d p) (on_path (length d.gens) d c p) (root_taken d (some c))) _
-      (move-other (view_at d c) (view_at d p) x y (on_path (length d.gens) d c p) (root_taken d (some c))) (full-other (room_fits (unhook d c) children p)))
+      (first-other (check_move (view_at d c) (view_at d p) (on_path (length d.gens) d c p) (root_taken d (Some c))) _
+      (move-other (view_at d c) (view_at d p) x y (on_path (length d.gens) d c p) (root_taken d (Some c))) (full-other (room_fits (unhook d c) children p)))
       (tt {0})
 
   text-tested : (check : ℕ) (d : Doc) (p : ℕ) (k : Option ℕ → Kind ℕ (Option ℕ)) (s : List ℕ) → Other S check → Tested S (append_one_text check d p k s).answer
@@ -188,32 +186,32 @@ module _ (S : Type 0) where
 
   kind-tested : (d : Doc) (h : ℕ) → Tested S (shown_kind d h)
   kind-tested d h =
-      go (resolves d h) (some (map_kind (λ n. n) (bytes_at d) (kind_at d h)))
+      go (resolves d h) (Some (map_kind (λ n. n) (bytes_at d) (kind_at d h)))
       (cond (is_element (kind_at d h)) (range_in d attributes (handle_index h)) (block 0 0))
       (cond (is_element (kind_at d h)) (range_in d namespaces (handle_index h)) (block 0 0))
     where
-      go : (r : Bool) (k : Option (Kind ℕ (List ℕ))) (a n : Block) → Tested S (cond r (kind_is k a n) (kind_is none (block 0 0) (block 0 0)))
+      go : (r : Bool) (k : Option (Kind ℕ (List ℕ))) (a n : Block) → Tested S (cond r (kind_is k a n) (kind_is None (block 0 0) (block 0 0)))
       go true k a n = tt
       go false k a n = tt
 
 -- a handle that shows nothing is stale
-unseen : (d : Doc) (h : ℕ) → view_at d h ≡ none → resolves d h ≡ false
+unseen : (d : Doc) (h : ℕ) → view_at d h ≡ None → resolves d h ≡ false
 unseen d h e = go (resolves d h) refl e
   where
-    go : (r : Bool) → resolves d h ≡ r → cond r (some (node_at d h)) none ≡ none → resolves d h ≡ false
+    go : (r : Bool) → resolves d h ≡ r → cond r (Some (node_at d h)) None ≡ None → resolves d h ≡ false
     go true q f = (let z : ◌≡◌ {A = Bool} true false = ap is_some f in absurd (true≢false z))
     go false q f = q
 
 abbrev Stale : Doc → List ℕ → Type 0
 Stale d l = all (resolves d) l ≡ false
 
-stale : (d : Doc) (h : ℕ) → view_at d h ≡ none → all (resolves d) (h ∷ []) ≡ false
+stale : (d : Doc) (h : ℕ) → view_at d h ≡ None → all (resolves d) (h ∷ []) ≡ false
 stale d h e = rw (unseen d h e)
 
-stale-first : (d : Doc) (a b : ℕ) → view_at d a ≡ none → all (resolves d) (a ∷ b ∷ []) ≡ false
+stale-first : (d : Doc) (a b : ℕ) → view_at d a ≡ None → all (resolves d) (a ∷ b ∷ []) ≡ false
 stale-first d a b e = rw (unseen d a e)
 
-stale-second : (d : Doc) (a b : ℕ) → view_at d b ≡ none → all (resolves d) (a ∷ b ∷ []) ≡ false
+stale-second : (d : Doc) (a b : ℕ) → view_at d b ≡ None → all (resolves d) (a ∷ b ∷ []) ≡ false
 stale-second d a b e = rw (unseen d b e) (and-false (resolves d a))
   where
     and-false : (q : Bool) → (q && false) ≡ false
@@ -223,11 +221,11 @@ stale-second d a b e = rw (unseen d b e) (and-false (resolves d a))
 pub tested : (c : Call) (d : Doc) → Tested (all (resolves d) (handles_of c) ≡ false) (step c d).answer
 tested (append-element p ns local) d =
     guarded-tested (Stale d (p ∷ [])) _ d _
-    (first-other (check_append_element ns local (view_at d p) (root_taken d none)) _
+    (first-other (check_append_element ns local (view_at d p) (root_taken d None)) _
     (first-other (not_utf8 (ns ∷ local ∷ [])) _ (utf8-other (ns ∷ local ∷ []))
     (first-other (container (view_at d p)) _ (container-other (view_at d p) (stale d p))
-    (first-other (refuse_if (any_option is_root (view_at d p) && root_taken d none) 12) _
-    (refuse-other (any_option is_root (view_at d p) && root_taken d none) 12 (λ e. omega arith, λ e. omega arith, λ e. absurd (omega arith)))
+    (first-other (refuse_if (any_option is_root (view_at d p) && root_taken d None) 12) _
+    (refuse-other (any_option is_root (view_at d p) && root_taken d None) 12 (λ e. omega arith, λ e. omega arith, λ e. absurd (omega arith)))
     (first-other (name_check local) (namespace_check ns) (name-other local) (namespace-other ns)))))
     (full-other (name_fits_in d (name ns local) && node_fits d children p)))
     (tt {0})
@@ -273,8 +271,8 @@ tested (declare-namespace e prefix uri) d =
     (declared-tested (Stale d (e ∷ [])) (find_namespace d e prefix) d e prefix uri)
 tested (remove h) d = guarded-tested (Stale d (h ∷ [])) _ d _ (remove-other (view_at d h) (stale d h)) (tt {0})
 tested (detach h) d = guarded-tested (Stale d (h ∷ [])) _ d _ (child-other (view_at d h) (stale d h)) (tt {0})
-tested (reparent c p) d = move-tested (Stale d (c ∷ p ∷ [])) d p none c (λ e. stale-first d c p e) (λ e. stale-second d c p e)
-tested (insert-at p i c) d = move-tested (Stale d (p ∷ c ∷ [])) d p (some i) c (λ e. stale-second d p c e) (λ e. stale-first d p c e)
+tested (reparent c p) d = move-tested (Stale d (c ∷ p ∷ [])) d p None c (λ e. stale-first d c p e) (λ e. stale-second d c p e)
+tested (insert-at p i c) d = move-tested (Stale d (p ∷ c ∷ [])) d p (Some i) c (λ e. stale-second d p c e) (λ e. stale-first d p c e)
 tested document-order d = tt
 tested compact d = tt
 tested root-of d = tt

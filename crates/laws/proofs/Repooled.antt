@@ -1,8 +1,9 @@
 -- Rule 8 when one node's text slots change: the pool as a text is stored or replaced, and every other node's texts.
 -- Assumes nothing.
+use Rattle.std.proofs.lemmas.Option.{none-some, same_Some}
+use Rattle.std.specs.Prelude.{Option, None, Some}
 use mathlib.Core.Path.{◌≡◌, refl, sym, ap, ◌∙◌, subst}
 use mathlib.Core.Logic.{◌≢◌, ◌⊎◌, inl, inr}
-use mathlib.Core.Option.{Option, none, some, none-ne-some, some-injective}
 use mathlib.Core.List.Memᴰ
 use mathlib.Core.List.{List, [], ◌∷◌, ◌++◌, Memᴰ}
 use Prim.Native.Nat.{ℕ, ◌+◌, ◌≤◌, ◌<◌}
@@ -52,8 +53,8 @@ pub record Repooled (p p' : Pool) (old new : List ℕ) (changed : Option ℕ) : 
   pub kept : (s : ℕ) → Memᴰ s old → Memᴰ s new
   pub free_old : (s : ℕ) → Memᴰ s p'.free → Memᴰ s p.free
   pub covers : (s : ℕ) → s < length p'.texts → Memᴰ s p'.free ⊎ (Memᴰ s new ⊎ ((s < length p.texts) × (Memᴰ s p.free → ⊥)))
-  pub mine : (s : ℕ) → changed ≡ some s → Memᴰ s old
-  pub same : (s : ℕ) → s < length p.texts → (Memᴰ s p.free → ⊥) → (changed ≡ some s → ⊥) → text_at p' (some s) ≡ text_at p (some s)
+  pub mine : (s : ℕ) → changed ≡ Some s → Memᴰ s old
+  pub same : (s : ℕ) → s < length p.texts → (Memᴰ s p.free → ⊥) → (changed ≡ Some s → ⊥) → text_at p' (Some s) ≡ text_at p (Some s)
 
 -- ---- the edits of the pool
 
@@ -71,7 +72,7 @@ decide-mem s (x ∷ l) = go (ℕ_discrete s x) (decide-mem s l)
     go (no n) (inr h) = inr (λ m. both n h (Memᴰ.cases_cons m))
 
 -- no slot changes
-pub repooled-same : (p : Pool) (l : List ℕ) → FreeOnce p → Holds p l → Repooled p p l l none
+pub repooled-same : (p : Pool) (l : List ℕ) → FreeOnce p → Holds p l → Repooled p p l l None
 repooled-same p l F H =
     record {
       holds = H;
@@ -81,7 +82,7 @@ repooled-same p l F H =
       kept = λ s m. m;
       free_old = λ s m. m;
       covers = λ s lt. go s lt (decide-mem s p.free);
-      mine = λ s e. absurd (none-ne-some s e);
+      mine = λ s e. absurd (none-some s e);
       same = λ s lt n e. refl;
     }
   where
@@ -91,7 +92,7 @@ repooled-same p l F H =
     go s lt (inr n) = inr (inr (lt, n))
 
 -- two changes of one node are one
-pub repooled-then : (p q r : Pool) (old mid new : List ℕ) → Repooled p q old mid none → Repooled q r mid new none → Repooled p r old new none
+pub repooled-then : (p q r : Pool) (old mid new : List ℕ) → Repooled p q old mid None → Repooled q r mid new None → Repooled p r old new None
 repooled-then p q r old mid new A B =
     record {
       holds = B.holds;
@@ -101,7 +102,7 @@ repooled-then p q r old mid new A B =
       kept = λ s m. B.kept s (A.kept s m);
       free_old = λ s m. A.free_old s (B.free_old s m);
       covers = λ s lt. covers s (B.covers s lt);
-      mine = λ s e. absurd (none-ne-some s e);
+      mine = λ s e. absurd (none-some s e);
       same = λ s lt n e. B.same s (omega (arith, A.grows)) (λ m. n (A.free_old s m)) e ∙ A.same s lt n e;
     }
   where
@@ -162,7 +163,7 @@ module _ (p : Pool) (b : ℕ) (t : List ℕ) (l : List ℕ) (F : FreeOnce p) (H 
       go (inl n) = inl n
       go (inr n) = inr (here (Memᴰ.cases_cons n))
 
-  new-slot : p.free ≡ [] → Repooled p (record { texts = p.texts ++ ((b ∷ t) ∷ []); free = [] }) l (l ++ (length p.texts ∷ [])) none
+  new-slot : p.free ≡ [] → Repooled p (record { texts = p.texts ++ ((b ∷ t) ∷ []); free = [] }) l (l ++ (length p.texts ∷ [])) None
   new-slot e =
       record {
         holds = one-more p' x (λ m. absurd (omega (arith, H.inside x m))) (omega (arith, size)) none_free (omega (arith, size)) (λ s m. absurd (Memᴰ.not-nil m));
@@ -172,7 +173,7 @@ module _ (p : Pool) (b : ℕ) (t : List ℕ) (l : List ℕ) (F : FreeOnce p) (H 
         kept = λ s m. Memᴰ.append_left (x ∷ []) m;
         free_old = λ s m. absurd (Memᴰ.not-nil m);
         covers = λ s lt. covers s lt (ℕ_discrete s x);
-        mine = λ s q. absurd (none-ne-some s q);
+        mine = λ s q. absurd (none-some s q);
         same = λ s lt n q. get_or-snoc-other p.texts (b ∷ t) [] s (λ f. omega arith);
       }
     where
@@ -193,7 +194,7 @@ module _ (p : Pool) (b : ℕ) (t : List ℕ) (l : List ℕ) (F : FreeOnce p) (H 
       covers s lt (yes f) = inr (inl (Memᴰ.append_right l (Memᴰ.head f)))
       covers s lt (no n) = inr (inr (omega (arith, size), λ m. Memᴰ.not-nil (subst (λ (f : List ℕ). Memᴰ s f) e m)))
 
-  used-slot : (x : ℕ) (f : List ℕ) → p.free ≡ x ∷ f → Repooled p (record { texts = set p.texts x (b ∷ t); free = f }) l (l ++ (x ∷ [])) none
+  used-slot : (x : ℕ) (f : List ℕ) → p.free ≡ x ∷ f → Repooled p (record { texts = set p.texts x (b ∷ t); free = f }) l (l ++ (x ∷ [])) None
   used-slot x f e =
       record {
         holds = one-more p' x (λ m. H.not_free x m here) (simp length-set (F.inside x here)) once.0 (simp length-set (omega arith)) old;
@@ -207,7 +208,7 @@ module _ (p : Pool) (b : ℕ) (t : List ℕ) (l : List ℕ) (F : FreeOnce p) (H 
         kept = λ s m. Memᴰ.append_left (x ∷ []) m;
         free_old = old;
         covers = λ s lt. covers s (simp length-set at lt) (decide-mem s (x ∷ f));
-        mine = λ s q. absurd (none-ne-some s q);
+        mine = λ s q. absurd (none-some s q);
         same = λ s lt n q. get_or-set_other p.texts x s (b ∷ t) [] (λ r. n (subst (λ (z : ℕ). Memᴰ z p.free) (sym r) here));
       }
     where
@@ -236,25 +237,25 @@ module _ (p : Pool) (b : ℕ) (t : List ℕ) (l : List ℕ) (F : FreeOnce p) (H 
 
 pub held-snoc : (l : List (Option ℕ)) (o : Option ℕ) → slots_held (l ++ (o ∷ [])) ≡ slots_held l ++ slots_held (o ∷ [])
 held-snoc [] o = refl
-held-snoc (none ∷ l) o = held-snoc l o
-held-snoc (some s ∷ l) o = ap (λ (m : List ℕ). s ∷ m) (held-snoc l o)
+held-snoc (None ∷ l) o = held-snoc l o
+held-snoc (Some s ∷ l) o = ap (λ (m : List ℕ). s ∷ m) (held-snoc l o)
 
 pub append-none : (l : List ℕ) → l ++ [] ≡ l
 append-none [] = refl
 append-none (x ∷ l) = ap (λ (m : List ℕ). x ∷ m) (append-none l)
 
 pub stored-repooled : (p : Pool) (t : List ℕ) (l : List (Option ℕ)) → FreeOnce p → Holds p (slots_held l)
-    → Repooled p (stored p t) (slots_held l) (slots_held (l ++ (stored_slot p t ∷ []))) none
+    → Repooled p (stored p t) (slots_held l) (slots_held (l ++ (stored_slot p t ∷ []))) None
 stored-repooled p [] l F H =
-    rw (stored-empty p, held-snoc l none, append-none (slots_held l)) (repooled-same p (slots_held l) F H)
+    rw (stored-empty p, held-snoc l None, append-none (slots_held l)) (repooled-same p (slots_held l) F H)
 stored-repooled p (b ∷ t) l F H = rw (held-snoc l (stored_slot p (b ∷ t))) (go p.free refl)
   where
-    go : (f : List ℕ) → p.free ≡ f → Repooled p (stored p (b ∷ t)) (slots_held l) (slots_held l ++ slots_held (stored_slot p (b ∷ t) ∷ [])) none
+    go : (f : List ℕ) → p.free ≡ f → Repooled p (stored p (b ∷ t)) (slots_held l) (slots_held l ++ slots_held (stored_slot p (b ∷ t) ∷ [])) None
     go [] e = rw (stored-new p b t e, ap (λ (f : List ℕ). next_slot_from f p) e) (new-slot p b t (slots_held l) F H e)
     go (x ∷ f) e = rw (stored-reused p b t x f e, ap (λ (g : List ℕ). next_slot_from g p) e) (used-slot p b t (slots_held l) F H x f e)
 
 -- a text replaced in its slot
-pub replaced-repooled : (p : Pool) (x : ℕ) (t : List ℕ) (l : List ℕ) → FreeOnce p → Holds p l → Memᴰ x l → Repooled p (replaced p (some x) t) l l (some x)
+pub replaced-repooled : (p : Pool) (x : ℕ) (t : List ℕ) (l : List ℕ) → FreeOnce p → Holds p l → Memᴰ x l → Repooled p (replaced p (Some x) t) l l (Some x)
 unfolding replaced
 replaced-repooled p x t l F H here =
     record {
@@ -269,8 +270,8 @@ replaced-repooled p x t l F H here =
       kept = λ s m. m;
       free_old = λ s m. m;
       covers = λ s lt. covers s (simp length-set at lt) (decide-mem s p.free);
-      mine = λ s q. subst (λ (z : ℕ). Memᴰ z l) (some-injective x s q) here;
-      same = λ s lt n q. get_or-set_other p.texts x s t [] (λ r. q (ap some (sym r)));
+      mine = λ s q. subst (λ (z : ℕ). Memᴰ z l) (same_Some x s q) here;
+      same = λ s lt n q. get_or-set_other p.texts x s t [] (λ r. q (ap Some (sym r)));
     }
   where
     covers : (s : ℕ) → s < length p.texts → Memᴰ s p.free ⊎ (Memᴰ s p.free → ⊥)

@@ -1,9 +1,9 @@
 -- Calls answer 6 just where a handle does not resolve.
 -- Assumes nothing.
+use Rattle.std.specs.Prelude.{None, Some}
 use mathlib.Core.Path.{◌≡◌, sym, ap, ◌∙◌}
 use mathlib.Core.Logic.{◌≢◌}
 use mathlib.Core.Bool.{Bool, cond, false≢true}
-use mathlib.Core.Option.{none, some}
 use Prim.Native.Nat.{ℕ}
 use native.Mathlib.Omega.{arith}
 use Rattle.model.specs.Doc.{Doc, node_at}
@@ -28,6 +28,6 @@ not-six (keys l) t f e = (let z : ◌≡◌ {A = ℕ} 0 1 = cc in omega arith)
 pub resolves-as-answered : (d : Doc) → ResolvesAsAnswered d
 unfolding guarded
 resolves-as-answered d = record {
-  stale = λ h e. ap (λ (r : Bool). (guarded (check_remove (cond r (some (node_at d h)) none)) d (answers (removed d h) done)).answer) e;
+  stale = λ h e. ap (λ (r : Bool). (guarded (check_remove (cond r (Some (node_at d h)) None)) d (answers (removed d h) done)).answer) e;
   live = λ c e. not-six (step c d).answer (tested c d) (λ f. absurd (false≢true (sym f ∙ e)));
 }

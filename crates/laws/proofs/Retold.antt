@@ -1,9 +1,9 @@
 -- The relation looks at the handles of births made so far only: another handle for a birth to come keeps it.
 -- Assumes nothing.
+use Rattle.std.specs.Prelude.{Option, None, Some}
 use mathlib.Core.Path.{◌≡◌, refl, sym, ap, ap₂, ◌∙◌, subst}
 use mathlib.Core.Logic.{◌⊎◌, inl, inr}
 use mathlib.Core.Bool.{true}
-use mathlib.Core.Option.{Option, none, some}
 use mathlib.Core.List.{List, [], ◌∷◌, map, Memᴰ}
 use Prim.Native.Nat.{ℕ, ◌<◌}
 use native.Mathlib.Omega.{arith}
@@ -45,8 +45,8 @@ module _ {d : Doc} {t : Tree} (hs gs : ℕ → ℕ) (same : (b : ℕ) → b < t.
   parents-same b lb = go (t.parent b) refl
     where
       go : (o : Option ℕ) → t.parent b ≡ o → map_option hs o ≡ map_option gs o
-      go none e = refl
-      go (some p) e = ap {B = Option ℕ} some (sym (at-live p (W.upward b p lb e).0))
+      go None e = refl
+      go (Some p) e = ap {B = Option ℕ} Some (sym (at-live p (W.upward b p lb e).0))
 
   pub sim-retold : Sim d t gs
   sim-retold = record {

@@ -1,9 +1,10 @@
 -- A document that stands for a plain tree with its rules keeps the eight structure rules.
 -- Assumes nothing.
+use Rattle.std.proofs.lemmas.Option.{none-some, same_Some}
+use Rattle.std.specs.Prelude.{Option, None, Some}
 use mathlib.Core.Path.{◌≡◌, refl, sym, ap, ap₂, ◌∙◌, subst}
 use mathlib.Core.Logic.{◌≢◌, ◌⊎◌, inl, inr}
 use mathlib.Core.Bool.{Bool, true, false, cond, false≢true, true≢false}
-use mathlib.Core.Option.{Option, none, some, none-ne-some, some-injective}
 use mathlib.Core.List.Memᴰ
 use mathlib.Core.List.{List, [], map, Memᴰ}
 use Prim.Native.Nat.{ℕ, ◌+◌, ◌%◌, ◌<◌}
@@ -34,9 +35,9 @@ is_root-root (comment t) e = absurd (false≢true e)
 is_root-root (namespace p u) e = absurd (false≢true e)
 is_root-root (instruction t d) e = absurd (false≢true e)
 
-some-birth : (hs : ℕ → ℕ) (o : Option ℕ) (p : ℕ) → map_option hs o ≡ some p → (q : ℕ) × (o ≡ some q) × (hs q ≡ p)
-some-birth hs none p e = absurd (none-ne-some p e)
-some-birth hs (some q) p e = (q, refl, some-injective (hs q) p e)
+some-birth : (hs : ℕ → ℕ) (o : Option ℕ) (p : ℕ) → map_option hs o ≡ Some p → (q : ℕ) × (o ≡ Some q) × (hs q ≡ p)
+some-birth hs None p e = absurd (none-some p e)
+some-birth hs (Some q) p e = (q, refl, same_Some (hs q) p e)
 
 module _ (d : Doc) (t : Tree) (hs : ℕ → ℕ) (S : Sim d t hs) (W : WF t) where
   -- a live slot holds a live birth
@@ -64,10 +65,10 @@ module _ (d : Doc) (t : Tree) (hs : ℕ → ℕ) (S : Sim d t hs) (W : WF t) whe
   root-live : live_slot d 0 ≡ true
   root-live = subst (λ (i : ℕ). live_slot d i ≡ true) root-slot (S.lives 0 S.root_live)
 
-  root-kind : get_or d.kinds 0 none ≡ some root
+  root-kind : get_or d.kinds 0 None ≡ Some root
   root-kind =
       let e : is_root (kind_in d 0) ≡ true = ap (λ (i : ℕ). is_root (kind_in d i)) (sym root-slot) ∙ root-same 0 S.root_live ∙ ap is_root W.root_kind in
-      live-node d 0 root-live ∙ ap some (is_root-root (kind_in d 0) e)
+      live-node d 0 root-live ∙ ap Some (is_root-root (kind_in d 0) e)
 
   fields-of-sim : CountsAndFields d
   fields-of-sim = record {
@@ -112,21 +113,21 @@ module _ (d : Doc) (t : Tree) (hs : ℕ → ℕ) (S : Sim d t hs) (W : WF t) whe
 
   parents-of-sim : Parents d
   parents-of-sim = record {
-    owner = λ i p l. by-slot (λ i. parent_in d i ≡ some p → (resolves d p ≡ true) × (owns (which_of (kind_in d i)) (kind_at d p) ≡ true)) (owned p) i l;
-    detached = λ i l. by-slot (λ i. parent_in d i ≡ none → which_of (kind_in d i) ≡ children) loose i l;
+    owner = λ i p l. by-slot (λ i. parent_in d i ≡ Some p → (resolves d p ≡ true) × (owns (which_of (kind_in d i)) (kind_at d p) ≡ true)) (owned p) i l;
+    detached = λ i l. by-slot (λ i. parent_in d i ≡ None → which_of (kind_in d i) ≡ children) loose i l;
   }
     where
-      owned : (p b : ℕ) → t.live b ≡ true → parent_at d (hs b) ≡ some p → (resolves d p ≡ true) × (owns (which_of (kind_at d (hs b))) (kind_at d p) ≡ true)
+      owned : (p b : ℕ) → t.live b ≡ true → parent_at d (hs b) ≡ Some p → (resolves d p ≡ true) × (owns (which_of (kind_at d (hs b))) (kind_at d p) ≡ true)
       owned p b lb e =
           let o = some-birth hs (t.parent b) p (sym (S.parent b lb) ∙ e) in
           let u = W.upward b o.0 lb o.1 in
           rw (← o.2, which-same b lb) (resolves-live d t hs S o.0 u.0, owns-same (which_of (t.kind b)) o.0 u.0 ∙ u.1)
 
-      no-birth : (o : Option ℕ) → map_option hs o ≡ none → o ≡ none
-      no-birth none e = refl
-      no-birth (some b) e = absurd (none-ne-some (hs b) (sym e))
+      no-birth : (o : Option ℕ) → map_option hs o ≡ None → o ≡ None
+      no-birth None e = refl
+      no-birth (Some b) e = absurd (none-some (hs b) (sym e))
 
-      loose : (b : ℕ) → t.live b ≡ true → parent_at d (hs b) ≡ none → which_of (kind_at d (hs b)) ≡ children
+      loose : (b : ℕ) → t.live b ≡ true → parent_at d (hs b) ≡ None → which_of (kind_at d (hs b)) ≡ children
       loose b lb e = which-same b lb ∙ W.detached b lb (no-birth (t.parent b) (sym (S.parent b lb) ∙ e))
 
   list-distinct : (w : Which) (p : ℕ) → t.live p ≡ true → Distinct (map hs (t.lists w p))
@@ -137,12 +138,12 @@ module _ (d : Doc) (t : Tree) (hs : ℕ → ℕ) (S : Sim d t hs) (W : WF t) whe
 
   entries-of-sim : Entries d
   entries-of-sim = record {
-    one = λ i p l. by-slot (λ i. parent_in d i ≡ some p → count_of (eqb (handle_at d i)) (list_at d (which_of (kind_in d i)) p) ≡ 1) (once p) i l;
+    one = λ i p l. by-slot (λ i. parent_in d i ≡ Some p → count_of (eqb (handle_at d i)) (list_at d (which_of (kind_in d i)) p) ≡ 1) (once p) i l;
     no_other = λ w i h l.
-        by-slot (λ i. Memᴰ h (list_in d w i) → (resolves d h ≡ true) × (parent_at d h ≡ some (handle_at d i)) × (which_of (kind_at d h) ≡ w)) (below-it w h) i l;
+        by-slot (λ i. Memᴰ h (list_in d w i) → (resolves d h ≡ true) × (parent_at d h ≡ Some (handle_at d i)) × (which_of (kind_at d h) ≡ w)) (below-it w h) i l;
   }
     where
-      once : (p b : ℕ) → t.live b ≡ true → parent_at d (hs b) ≡ some p
+      once : (p b : ℕ) → t.live b ≡ true → parent_at d (hs b) ≡ Some p
           → count_of (eqb (handle_at d (handle_index (hs b)))) (list_at d (which_of (kind_at d (hs b))) p) ≡ 1
       once p b lb e =
           let o = some-birth hs (t.parent b) p (sym (S.parent b lb) ∙ e) in
@@ -154,7 +155,7 @@ module _ (d : Doc) (t : Tree) (hs : ℕ → ℕ) (S : Sim d t hs) (W : WF t) whe
           ap₂ (λ (h : ℕ) (m : List ℕ). count_of (eqb h) m) (handle-of-live d t hs S b lb) e ∙ c
 
       below-it : (w : Which) (h b : ℕ) → t.live b ≡ true → Memᴰ h (list_at d w (hs b))
-          → (resolves d h ≡ true) × (parent_at d h ≡ some (handle_at d (handle_index (hs b)))) × (which_of (kind_at d h) ≡ w)
+          → (resolves d h ≡ true) × (parent_at d h ≡ Some (handle_at d (handle_index (hs b)))) × (which_of (kind_at d h) ≡ w)
       below-it w h b lb m =
           let o = mem-map-cases hs (t.lists w b) (subst (λ (l : List ℕ). Memᴰ h l) (S.lists w b lb) m) in
           let u = W.downward w b o.0 lb o.1 in

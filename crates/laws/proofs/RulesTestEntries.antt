@@ -1,8 +1,8 @@
 -- Structure rules 3, 4 and 7 and their tests say the same.
 -- Assumes nothing.
+use Rattle.std.specs.Prelude.{Option, None, Some}
 use mathlib.Core.Path.{◌≡◌, refl, sym, ap, ◌∙◌}
 use mathlib.Core.Bool.{true, false≢true}
-use mathlib.Core.Option.{Option, none, some}
 use mathlib.Core.List.{Memᴰ}
 use Prim.Native.Nat.{ℕ}
 use borrow.Author.Tests.{eqb-true, eq-eqb, leb-true, le-leb}
@@ -40,29 +40,29 @@ parents-of-test d h = record { owner = owner; detached = detached }
     holds : (i : ℕ) → live_slot d i ≡ true → (o : Option ℕ) → parent_in d i ≡ o → parent_holds d i o ≡ true
     holds i l o e = ap (parent_holds d i) (sym e) ∙ live_at d (λ i. parent_holds d i (parent_in d i)) h i l
 
-    owner : (i p : ℕ) → live_slot d i ≡ true → parent_in d i ≡ some p → (resolves d p ≡ true) × (owns (which_of (kind_in d i)) (kind_at d p) ≡ true)
+    owner : (i p : ℕ) → live_slot d i ≡ true → parent_in d i ≡ Some p → (resolves d p ≡ true) × (owns (which_of (kind_in d i)) (kind_at d p) ≡ true)
     owner i p l e =
-        let k = holds i l (some p) e in
+        let k = holds i l (Some p) e in
         (and_left (resolves d p) (owns (which_of (kind_in d i)) (kind_at d p)) k, and_right (resolves d p) (owns (which_of (kind_in d i)) (kind_at d p)) k)
 
-    detached : (i : ℕ) → live_slot d i ≡ true → parent_in d i ≡ none → which_of (kind_in d i) ≡ children
-    detached i l e = same_which-true (which_of (kind_in d i)) children (holds i l none e)
+    detached : (i : ℕ) → live_slot d i ≡ true → parent_in d i ≡ None → which_of (kind_in d i) ≡ children
+    detached i l e = same_which-true (which_of (kind_in d i)) children (holds i l None e)
 
 pub test-of-parents : (d : Doc) → Parents d → parents_hold d ≡ true
 unfolding parents_hold
 test-of-parents d R = at-live d (λ i. parent_holds d i (parent_in d i)) (λ i l. go i l (parent_in d i) refl)
   where
     go : (i : ℕ) → live_slot d i ≡ true → (o : Option ℕ) → parent_in d i ≡ o → parent_holds d i o ≡ true
-    go i l none e = eq-same_which (which_of (kind_in d i)) children (R.detached i l e)
-    go i l (some p) e = let k = R.owner i p l e in and_both (resolves d p) (owns (which_of (kind_in d i)) (kind_at d p)) k.0 k.1
+    go i l None e = eq-same_which (which_of (kind_in d i)) children (R.detached i l e)
+    go i l (Some p) e = let k = R.owner i p l e in and_both (resolves d p) (owns (which_of (kind_in d i)) (kind_at d p)) k.0 k.1
 
 -- ---- 4
 
-parent_is : (o : Option ℕ) (h : ℕ) → any_option (eqb h) o ≡ true → o ≡ some h
-parent_is none h e = absurd (false≢true e)
-parent_is (some p) h e = ap some (sym (eqb-true h p e))
+parent_is : (o : Option ℕ) (h : ℕ) → any_option (eqb h) o ≡ true → o ≡ Some h
+parent_is None h e = absurd (false≢true e)
+parent_is (Some p) h e = ap Some (sym (eqb-true h p e))
 
-is-parent : (o : Option ℕ) (h : ℕ) → o ≡ some h → any_option (eqb h) o ≡ true
+is-parent : (o : Option ℕ) (h : ℕ) → o ≡ Some h → any_option (eqb h) o ≡ true
 is-parent o h e = ap (any_option (eqb h)) e ∙ eq-eqb h h refl
 
 pub entries-of-test : (d : Doc) → entries_hold d ≡ true → Entries d
@@ -75,13 +75,13 @@ entries-of-test d h = record { one = one; no_other = no_other }
     others : (w : Which) → all_live d (λ i. all (entry_holds d w i) (list_in d w i)) ≡ true
     others w = which-at (λ w. all_live d (λ i. all (entry_holds d w i) (list_in d w i))) (search (and_left, and_right)) w
 
-    one : (i p : ℕ) → live_slot d i ≡ true → parent_in d i ≡ some p → count_of (eqb (handle_at d i)) (list_at d (which_of (kind_in d i)) p) ≡ 1
+    one : (i p : ℕ) → live_slot d i ≡ true → parent_in d i ≡ Some p → count_of (eqb (handle_at d i)) (list_at d (which_of (kind_in d i)) p) ≡ 1
     one i p l e =
         eqb-true (count_of (eqb (handle_at d i)) (list_at d (which_of (kind_in d i)) p)) 1
         (ap (all_option (entered_once d i)) (sym e) ∙ live_at d (λ i. all_option (entered_once d i) (parent_in d i)) once i l)
 
     no_other : (w : Which) (i h : ℕ) → live_slot d i ≡ true → Memᴰ h (list_in d w i)
-        → (resolves d h ≡ true) × (parent_at d h ≡ some (handle_at d i)) × (which_of (kind_at d h) ≡ w)
+        → (resolves d h ≡ true) × (parent_at d h ≡ Some (handle_at d i)) × (which_of (kind_at d h) ≡ w)
     no_other w i h l m =
         let k : entry_holds d w i h ≡ true = all-mem (entry_holds d w i) (list_in d w i) (live_at d (λ i. all (entry_holds d w i) (list_in d w i)) (others w) i l) h m in (
           search (and_left, and_right),
@@ -99,8 +99,8 @@ test-of-entries d R =
     )
   where
     once : (i : ℕ) → live_slot d i ≡ true → (o : Option ℕ) → parent_in d i ≡ o → all_option (entered_once d i) o ≡ true
-    once i l none e = refl
-    once i l (some p) e = eq-eqb (count_of (eqb (handle_at d i)) (list_at d (which_of (kind_in d i)) p)) 1 (R.one i p l e)
+    once i l None e = refl
+    once i l (Some p) e = eq-eqb (count_of (eqb (handle_at d i)) (list_at d (which_of (kind_in d i)) p)) 1 (R.one i p l e)
 
     entry : (w : Which) (i : ℕ) → live_slot d i ≡ true → (h : ℕ) → Memᴰ h (list_in d w i) → entry_holds d w i h ≡ true
     entry w i l h m =

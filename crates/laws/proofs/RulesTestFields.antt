@@ -1,8 +1,8 @@
 -- Structure rules 1 and 2 and their tests say the same.
 -- Assumes nothing.
+use Rattle.std.specs.Prelude.{Option, None, Some}
 use mathlib.Core.Path.{◌≡◌, refl, ap, subst}
 use mathlib.Core.Bool.{Bool, true, false≢true}
-use mathlib.Core.Option.{Option, none, some}
 use mathlib.Core.List.{Memᴰ}
 use Prim.Native.Nat.{ℕ, ◌%◌, ◌<◌}
 use borrow.Author.Tests.{ltb-true, leb-true, eqb-true, lt-ltb, le-leb, eq-eqb}
@@ -24,13 +24,13 @@ use Rattle.laws.proofs.Quantifiers.{implies_true, true_implies, which-at, at-whi
 
 -- ---- 1
 
-none-there : {A : Type 0} (o : Option A) → is_none o ≡ true → o ≡ none
-none-there none e = refl
-none-there (some a) e = absurd (false≢true e)
+none-there : {A : Type 0} (o : Option A) → is_none o ≡ true → o ≡ None
+none-there None e = refl
+none-there (Some a) e = absurd (false≢true e)
 
-root-there : (o : Option (Kind ℕ (Option ℕ))) → any_option is_root o ≡ true → o ≡ some root
-root-there none e = absurd (false≢true e)
-root-there (some k) e = ap some (is_root-root k e)
+root-there : (o : Option (Kind ℕ (Option ℕ))) → any_option is_root o ≡ true → o ≡ Some root
+root-there None e = absurd (false≢true e)
+root-there (Some k) e = ap Some (is_root-root k e)
 
 abbrev capacity_fits : Doc → Which → ℕ → Bool
 capacity_fits d w i = fits_field (get_or (d.arenas w).caps i 0)
@@ -46,15 +46,15 @@ fields-of-test d h = record {
   name_bytes = leb-true (length (joined entry_bytes d.names)) d.limits.name_bytes (search (and_left, and_right) depth 8);
   generations = λ i b. ltb-true (get_or d.gens i 0) 4294967296 (slots-at d (λ i. fits_field (get_or d.gens i 0)) (search (and_left, and_right) depth 8) i b);
   nodes = λ i e.
-      implies_true (even (generation_at d i)) (is_some (get_or d.kinds i none))
-      (slots-at d (λ i. implies (even (generation_at d i)) (is_some (get_or d.kinds i none))) (search (and_left, and_right) depth 8) i (even-below d i e)) e;
+      implies_true (even (generation_at d i)) (is_some (get_or d.kinds i None))
+      (slots-at d (λ i. implies (even (generation_at d i)) (is_some (get_or d.kinds i None))) (search (and_left, and_right) depth 8) i (even-below d i e)) e;
   order_words = λ i b. ltb-true (get_or d.order i 0) 4294967296 (slots-at d (λ i. fits_field (get_or d.order i 0)) (search (and_left, and_right) depth 8) i b);
   capacities = λ w i b.
       ltb-true (get_or (d.arenas w).caps i 0) 4294967296
       (all_below-at (capacity_fits d w) (d.arenas w).used
       (which-at (λ w. all_below (capacity_fits d w) (d.arenas w).used) (search (and_left, and_right) depth 8) w) i b);
   root_generation = eqb-true (generation_at d 0) 0 (search (and_left, and_right) depth 8);
-  root_kind = root-there (get_or d.kinds 0 none) (search (and_left, and_right) depth 8);
+  root_kind = root-there (get_or d.kinds 0 None) (search (and_left, and_right) depth 8);
   root_parent = none-there (parent_in d 0) (search (and_left, and_right) depth 8);
   root_only = λ i l r.
       eqb-true i 0
@@ -79,8 +79,8 @@ unfolding words_within
 test-of-words d R =
     rw (
       at_slots d (λ i. fits_field (get_or d.gens i 0)) (λ i b. lt-ltb (get_or d.gens i 0) 4294967296 (R.generations i b)),
-      at_slots d (λ i. implies (even (generation_at d i)) (is_some (get_or d.kinds i none)))
-          (λ i b. true_implies (even (generation_at d i)) (is_some (get_or d.kinds i none)) (R.nodes i)),
+      at_slots d (λ i. implies (even (generation_at d i)) (is_some (get_or d.kinds i None)))
+          (λ i b. true_implies (even (generation_at d i)) (is_some (get_or d.kinds i None)) (R.nodes i)),
       at_slots d (λ i. fits_field (get_or d.order i 0)) (λ i b. lt-ltb (get_or d.order i 0) 4294967296 (R.order_words i b)),
       at-which (λ w. all_below (capacity_fits d w) (d.arenas w).used)
           (λ w. at-all_below (capacity_fits d w) (d.arenas w).used (λ i b. lt-ltb (get_or (d.arenas w).caps i 0) 4294967296 (R.capacities w i b))),

@@ -1,10 +1,11 @@
 -- Structure rule 6 and its test say the same: where parents are live (rule 3), a path to the top meets no slot twice, so it is no longer
 -- than the slots made.
 -- Assumes nothing.
+use Rattle.std.proofs.lemmas.Option.{none-some, same_Some}
+use Rattle.std.specs.Prelude.{Option, None, Some}
 use mathlib.Core.Path.{◌≡◌, refl, sym, ap, ◌∙◌}
 use mathlib.Core.Logic.{◌⊎◌, inl, inr}
 use mathlib.Core.Bool.{true, false≢true}
-use mathlib.Core.Option.{Option, none, some, none-ne-some, some-injective}
 use mathlib.Core.List.Memᴰ
 use mathlib.Core.List.{[], Memᴰ}
 use Prim.Native.Nat.{ℕ, zero, suc, ◌≤◌}
@@ -31,8 +32,8 @@ module _ (d : Doc) where
     where
       go : ((j : ℕ) → ends_within f d j ≡ true → Ends d j) → (o : Option ℕ) → parent_in d i ≡ o
           → all_option (λ p. ends_within f d (handle_index p)) o ≡ true → Ends d i
-      go ih none e k = Ends.top e
-      go ih (some p) e k = Ends.up p e (ih (handle_index p) k)
+      go ih None e k = Ends.top e
+      go ih (Some p) e k = Ends.up p e (ih (handle_index p) k)
 
   pub ends-of-test : parents_end_holds d ≡ true → ParentsEnd d
   unfolding parents_end_holds
@@ -54,23 +55,23 @@ module _ (d : Doc) where
   steps-enough (wf.Ends.up q e r) zero h = absurd (omega arith)
   steps-enough {i} (wf.Ends.top e) (suc f) h = go (parent_in d i) e
     where
-      go : (o : Option ℕ) → map_option handle_index o ≡ none → all_option (λ p. ends_within f d (handle_index p)) o ≡ true
-      go none k = refl
-      go (some p) k = absurd (none-ne-some (handle_index p) (sym k))
+      go : (o : Option ℕ) → map_option handle_index o ≡ None → all_option (λ p. ends_within f d (handle_index p)) o ≡ true
+      go None k = refl
+      go (Some p) k = absurd (none-some (handle_index p) (sym k))
   steps-enough {i} (wf.Ends.up q e r) (suc f) h = go (steps-enough r f (omega arith)) (parent_in d i) e
     where
-      go : ends_within f d q ≡ true → (o : Option ℕ) → map_option handle_index o ≡ some q → all_option (λ p. ends_within f d (handle_index p)) o ≡ true
-      go ih none k = absurd (none-ne-some q k)
-      go ih (some p) k = ap (ends_within f d) (some-injective (handle_index p) q k) ∙ ih
+      go : ends_within f d q ≡ true → (o : Option ℕ) → map_option handle_index o ≡ Some q → all_option (λ p. ends_within f d (handle_index p)) o ≡ true
+      go ih None k = absurd (none-some q k)
+      go ih (Some p) k = ap (ends_within f d) (same_Some (handle_index p) q k) ∙ ih
 
   module _ (R : Parents d) where
-    parent_live : (i q : ℕ) → live_slot d i ≡ true → parent_slot i ≡ some q → live_slot d q ≡ true
+    parent_live : (i q : ℕ) → live_slot d i ≡ true → parent_slot i ≡ Some q → live_slot d q ≡ true
     parent_live i q l e = go (parent_in d i) refl e
       where
-        go : (o : Option ℕ) → parent_in d i ≡ o → map_option handle_index o ≡ some q → live_slot d q ≡ true
-        go none f k = absurd (none-ne-some q k)
-        go (some p) f k =
-            ap (live_slot d) (sym (some-injective (handle_index p) q k))
+        go : (o : Option ℕ) → parent_in d i ≡ o → map_option handle_index o ≡ Some q → live_slot d q ≡ true
+        go None f k = absurd (none-some q k)
+        go (Some p) f k =
+            ap (live_slot d) (sym (same_Some (handle_index p) q k))
             ∙ and_left (live_slot d (handle_index p)) (eqb (generation_at d (handle_index p)) (handle_generation p)) (R.owner i p l f).0
 
     path-live : {i : ℕ} (r : wf.Ends parent_slot i) → live_slot d i ≡ true → (j : ℕ) → Memᴰ j (path r) → live_slot d j ≡ true

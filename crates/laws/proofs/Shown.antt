@@ -1,8 +1,8 @@
 -- What a node shows: the tests of a kind don't see names and texts, and equal bytes and pairs show an equal node.
 -- Assumes nothing.
+use Rattle.std.specs.Prelude.{Option, None, Some}
 use mathlib.Core.Path.{◌≡◌, refl, ap, ap₂}
 use mathlib.Core.Bool.{true, false≢true}
-use mathlib.Core.Option.{Option, none, some}
 use mathlib.Core.List.{List, [], ◌∷◌, Memᴰ}
 use Prim.Native.Nat.{ℕ}
 use Rattle.texts.specs.Pool.{Pool, text_at}
@@ -138,12 +138,12 @@ module _ {N T : Type 0} where
 
 -- ---- the text slots of a node's fields
 
-pub held-here : (o : Option ℕ) (l : List (Option ℕ)) (s : ℕ) → o ≡ some s → Memᴰ s (slots_held (o ∷ l))
+pub held-here : (o : Option ℕ) (l : List (Option ℕ)) (s : ℕ) → o ≡ Some s → Memᴰ s (slots_held (o ∷ l))
 held-here o l s e = rw e (Memᴰ.head refl)
 
 pub held-there : (o : Option ℕ) (l : List (Option ℕ)) (s : ℕ) → Memᴰ s (slots_held l) → Memᴰ s (slots_held (o ∷ l))
-held-there none l s m = m
-held-there (some x) l s m = Memᴰ.tail m
+held-there None l s m = m
+held-there (Some x) l s m = Memᴰ.tail m
 
 -- ---- a node is shown by the pairs of its names and the bytes of its texts
 
@@ -152,13 +152,13 @@ abbrev pub shown_by : List (Option Name) → Pool → Kind ℕ (Option ℕ) → 
 shown_by names p k = map_kind (λ n. or_else (name [] []) (name_at names n)) (text_at p) k
 
 module _ (names names' : List (Option Name)) (p p' : Pool) where
-  text-kept : (l : List (Option ℕ)) → ((s : ℕ) → Memᴰ s (slots_held l) → text_at p' (some s) ≡ text_at p (some s)) → (o : Option ℕ)
-      → ((s : ℕ) → o ≡ some s → Memᴰ s (slots_held l)) → text_at p' o ≡ text_at p o
-  text-kept l h none there = refl
-  text-kept l h (some s) there = h s (there s refl)
+  text-kept : (l : List (Option ℕ)) → ((s : ℕ) → Memᴰ s (slots_held l) → text_at p' (Some s) ≡ text_at p (Some s)) → (o : Option ℕ)
+      → ((s : ℕ) → o ≡ Some s → Memᴰ s (slots_held l)) → text_at p' o ≡ text_at p o
+  text-kept l h None there = refl
+  text-kept l h (Some s) there = h s (there s refl)
 
   pub texts-kept : (k : Kind ℕ (Option ℕ)) → ((n : ℕ) → Memᴰ n (names_of k) → name_at names' n ≡ name_at names n)
-      → ((s : ℕ) → Memᴰ s (slots_held (texts_of k)) → text_at p' (some s) ≡ text_at p (some s))
+      → ((s : ℕ) → Memᴰ s (slots_held (texts_of k)) → text_at p' (Some s) ≡ text_at p (Some s))
       → shown_by names' p' k ≡ shown_by names p k
   texts-kept root ns ts = refl
   texts-kept (element n) ns ts = ap (λ (o : Option Name). element (or_else (name [] []) o)) (ns n (Memᴰ.head refl))

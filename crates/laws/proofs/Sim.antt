@@ -1,9 +1,9 @@
 -- How a document stands for a plain tree. hs gives each birth's handle. The reader of the claim need not see this.
 -- Assumes nothing.
+use Rattle.std.specs.Prelude.{None}
 use mathlib.Core.Path.{◌≡◌}
 use mathlib.Core.Logic.{◌≢◌, ◌⊎◌}
 use mathlib.Core.Bool.{Bool, true, false}
-use mathlib.Core.Option.{none}
 use mathlib.Core.List.{List, [], map, Memᴰ}
 use Prim.Native.Nat.{ℕ, ◌*◌, ◌≤◌, ◌<◌}
 use lib.ListN.{length, get_or}
@@ -66,7 +66,7 @@ pub record Sim (d : Doc) (t : Tree) (hs : ℕ → ℕ) : Type 0 where
   pub lengths : d.lengths_fit ≡ true
   pub within : Within d
   pub generations : (i : ℕ) → i < length d.gens → get_or d.gens i 0 < 4294967296
-  pub nodes : (i : ℕ) → even (generation_at d i) ≡ true → is_some (get_or d.kinds i none) ≡ true
+  pub nodes : (i : ℕ) → even (generation_at d i) ≡ true → is_some (get_or d.kinds i None) ≡ true
   pub order_fits : (i : ℕ) → get_or d.order i 0 < 4294967296
   pub caps_fit : (w : Which) (i : ℕ) → get_or (d.arenas w).caps i 0 < 4294967296
   pub free : FreeSlots d

@@ -1,9 +1,10 @@
 -- A block edited: the owner's list as the tree has it, every other list as it was.
 -- Assumes nothing.
+use Rattle.std.proofs.lemmas.Option.{same_Some}
+use Rattle.std.specs.Prelude.{Option, None, Some}
 use mathlib.Core.Path.{◌≡◌, refl, sym, ap, ◌∙◌}
 use mathlib.Core.Logic.{◌≢◌, ◌⊎◌, inl, inr}
 use mathlib.Core.Bool.{true, false, cond, false≢true, true≢false}
-use mathlib.Core.Option.{Option, none, some, some-injective}
 use mathlib.Core.List.{List, map}
 use Prim.Native.Nat.{ℕ, ◌<◌}
 use native.Mathlib.Omega.{arith}
@@ -104,7 +105,7 @@ module _ (d : Doc) (t : Tree) (hs : ℕ → ℕ) (S : Sim d t hs) where
       caps v (inr q) = rw q (S.shape.caps v)
 
       -- the edited node's kind has the range
-      unused : (v : Which) (i : ℕ) (k : Kind ℕ (Option ℕ)) → get_or d.kinds i none ≡ some k → has_range v k ≡ false
+      unused : (v : Which) (i : ℕ) (k : Kind ℕ (Option ℕ)) → get_or d.kinds i None ≡ Some k → has_range v k ≡ false
           → (v ≡ w) ⊎ (same_which v w ≡ false) → range_in d' v i ≡ block 0 0
       unused v i k q h (inr r) = rw r (S.shape.unused v i k q h)
       unused v i k q h (inl r) = rw (r, same_which-refl w) (go (ℕ_discrete i x))
@@ -112,7 +113,7 @@ module _ (d : Doc) (t : Tree) (hs : ℕ → ℕ) (S : Sim d t hs) where
           go : Dec (i ≡ x) → get_or (set (d.ranges w) x e.block) i (block 0 0) ≡ block 0 0
           go (yes f) =
               let same : kind_at d (hs p) ≡ k =
-              some-injective (kind_at d (hs p)) k (sym (live-node d x (S.lives p lp)) ∙ ap (λ (j : ℕ). get_or d.kinds j none) (sym f) ∙ q) in
+              same_Some (kind_at d (hs p)) k (sym (live-node d x (S.lives p lp)) ∙ ap (λ (j : ℕ). get_or d.kinds j None) (sym f) ∙ q) in
               absurd (true≢false (sym (range-of-kind w p lp ∙ has) ∙ ap (has_range w) same ∙ ap (λ (u : Which). has_range u k) (sym r) ∙ h))
           go (no n) = range-other i n ∙ S.shape.unused w i k q (ap (λ (u : Which). has_range u k) (sym r) ∙ h)
 

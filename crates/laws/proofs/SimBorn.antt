@@ -1,9 +1,9 @@
 -- A birth: the relation with one birth more.
 -- Assumes nothing.
+use Rattle.std.specs.Prelude.{Option, None, Some}
 use mathlib.Core.Path.{◌≡◌, refl, sym, ap, ap₂, ◌∙◌, subst}
 use mathlib.Core.Logic.{◌≢◌}
 use mathlib.Core.Bool.{Bool, true, false, cond, ◌&&◌, false≢true, true≢false}
-use mathlib.Core.Option.{Option, none, some}
 use mathlib.Core.List.Memᴰ
 use mathlib.Core.List.{List, [], ◌∷◌, ◌++◌, map, Memᴰ}
 use Prim.Native.Nat.{ℕ, suc, ◌<◌}
@@ -74,7 +74,7 @@ module _ (d : Doc) (t : Tree) (hs : ℕ → ℕ) (S : Sim d t hs) (k : Kind ℕ 
 
   live_here : live_slot d' x ≡ true
   live_here =
-      and_both (even (generation_at d' x)) (is_some (get_or kinds x none)) (ap even A.gen_here ∙ A.gen_even) (ap is_some A.kind_here)
+      and_both (even (generation_at d' x)) (is_some (get_or kinds x None)) (ap even A.gen_here ∙ A.gen_even) (ap is_some A.kind_here)
 
   kind-same : (b : ℕ) → t.live b ≡ true → kind_at d' (hs b) ≡ kind_at d (hs b)
   kind-same b lb = ap (or_else root) (A.kind_other (handle_index (hs b)) (apart b lb))
@@ -120,7 +120,7 @@ module _ (d : Doc) (t : Tree) (hs : ℕ → ℕ) (S : Sim d t hs) (k : Kind ℕ 
         free = F;
         blocks = blocks;
         pool =
-            pooled-changed d t hs d' n [] (slots_held (texts_of k)) none K.pool none-mine new-born S.pool (tree.born t kind)
+            pooled-changed d t hs d' n [] (slots_held (texts_of k)) None K.pool none-mine new-born S.pool (tree.born t kind)
             (update_same t.live n true) (ap (λ (c : Kind ℕ (Option ℕ)). slots_held (texts_of c)) kind-here)
             (λ a la m. (was-live a m la, ap (λ (c : Kind ℕ (Option ℕ)). slots_held (texts_of c)) (kind-same a (was-live a m la)))) still-live;
         named = λ b i lb m. named b i lb m (ℕ_discrete b n);
@@ -142,11 +142,11 @@ module _ (d : Doc) (t : Tree) (hs : ℕ → ℕ) (S : Sim d t hs) (k : Kind ℕ 
         root_is = S.root_is;
       }
     where
-      unused : (w : Which) (i : ℕ) (c : Kind ℕ (Option ℕ)) → get_or kinds i none ≡ some c → has_range w c ≡ false → Dec (i ≡ x) → range_in d' w i ≡ block 0 0
+      unused : (w : Which) (i : ℕ) (c : Kind ℕ (Option ℕ)) → get_or kinds i None ≡ Some c → has_range w c ≡ false → Dec (i ≡ x) → range_in d' w i ≡ block 0 0
       unused w i c q h (yes e) = rw e (A.range_here w)
       unused w i c q h (no m) = A.range_other w i m ∙ S.shape.unused w i c (sym (A.kind_other i m) ∙ q) h
 
-      nodes : (i : ℕ) → even (get_or gens i 1) ≡ true → Dec (i ≡ x) → is_some (get_or kinds i none) ≡ true
+      nodes : (i : ℕ) → even (get_or gens i 1) ≡ true → Dec (i ≡ x) → is_some (get_or kinds i None) ≡ true
       nodes i e (yes q) = rw (q, A.kind_here)
       nodes i e (no m) = ap is_some (A.kind_other i m) ∙ S.nodes i (sym (ap even (A.gen_other i m)) ∙ e)
 
@@ -204,13 +204,13 @@ module _ (d : Doc) (t : Tree) (hs : ℕ → ℕ) (S : Sim d t hs) (k : Kind ℕ 
           let l = was-live b m lb in
           rw (update_other t.kind n kind b m)
           (ap (shown_by names p) (kind-same b l)
-          ∙ other-shown d t hs d' n [] (slots_held (texts_of k)) none K.pool none-mine new-born S K.names.kept b l m)
+          ∙ other-shown d t hs d' n [] (slots_held (texts_of k)) None K.pool none-mine new-born S K.names.kept b l m)
 
-      parent : (b : ℕ) → live' b ≡ true → Dec (b ≡ n) → parent_at d' (hs b) ≡ map_option hs (update t.parent n none b)
-      parent b lb (yes q) = rw (q, update_same t.parent n none) A.parent_here
+      parent : (b : ℕ) → live' b ≡ true → Dec (b ≡ n) → parent_at d' (hs b) ≡ map_option hs (update t.parent n None b)
+      parent b lb (yes q) = rw (q, update_same t.parent n None) A.parent_here
       parent b lb (no m) =
           let l = was-live b m lb in
-          rw (update_other t.parent n none b m) (A.parent_other (handle_index (hs b)) (apart b l) ∙ S.parent b l)
+          rw (update_other t.parent n None b m) (A.parent_other (handle_index (hs b)) (apart b l) ∙ S.parent b l)
 
       lists : (w : Which) (b : ℕ) → live' b ≡ true → Dec (b ≡ n) → list_at d' w (hs b) ≡ map hs (update (t.lists w) n [] b)
       lists w b lb (yes q) = rw (q, update_same (t.lists w) n [], A.range_here w) (part_none (d.arenas w).ids 0)
@@ -235,14 +235,14 @@ sim-born d t hs S k p names kind K room told = go d.free refl room told
     go : (f : List ℕ) → d.free ≡ f → slot_fits_from f d ≡ true → hs t.births ≡ next_from f d → Sim (born_from f d k p names) (tree.born t kind) hs
     go [] e r h =
         let lt : length d.gens < d.limits.nodes = ltb-true (length d.gens) d.limits.nodes r in
-        sim-made d t hs S k p names kind K (d.gens ++ (0 ∷ [])) [] (d.kinds ++ (some k ∷ [])) (d.parents ++ (none ∷ [])) (λ w. d.ranges w ++ (block 0 0 ∷ []))
+        sim-made d t hs S k p names kind K (d.gens ++ (0 ∷ [])) [] (d.kinds ++ (Some k ∷ [])) (d.parents ++ (None ∷ [])) (λ w. d.ranges w ++ (block 0 0 ∷ []))
         (set d.order (length d.gens) no_key) (length-set d.order (length d.gens) no_key) (set-fits d.order (length d.gens) no_key (omega arith) S.order_fits)
         (at-handle (length d.gens) 0 (hs t.births) h (omega (arith, limit-nodes d.limits S.limits)) (appended d t hs S k lt))
-        (appended-free d t hs S k lt e (d.kinds ++ (some k ∷ [])) (d.parents ++ (none ∷ [])) (λ w. d.ranges w ++ (block 0 0 ∷ [])) (set d.order (length d.gens) no_key) p names)
+        (appended-free d t hs S k lt e (d.kinds ++ (Some k ∷ [])) (d.parents ++ (None ∷ [])) (λ w. d.ranges w ++ (block 0 0 ∷ [])) (set d.order (length d.gens) no_key) p names)
     go (j ∷ l) e r h =
         let g : ℕ = up (generation_at d j) in
         let lt : j < length d.gens = inside d t hs S k j l e in
-        sim-made d t hs S k p names kind K (set d.gens j g) l (set d.kinds j (some k)) (set d.parents j none) (λ w. set (d.ranges w) j (block 0 0))
+        sim-made d t hs S k p names kind K (set d.gens j g) l (set d.kinds j (Some k)) (set d.parents j None) (λ w. set (d.ranges w) j (block 0 0))
         (set d.order j no_key) (length-set d.order j no_key) (set-fits d.order j no_key (omega arith) S.order_fits)
         (at-handle j g (hs t.births) h (omega (arith, limit-nodes d.limits S.limits, S.within.slots)) (reused d t hs S k j l e))
-        (reused-free d t hs S k j l e (set d.kinds j (some k)) (set d.parents j none) (λ w. set (d.ranges w) j (block 0 0)) (set d.order j no_key) p names)
+        (reused-free d t hs S k j l e (set d.kinds j (Some k)) (set d.parents j None) (λ w. set (d.ranges w) j (block 0 0)) (set d.order j no_key) p names)

@@ -1,8 +1,8 @@
 -- The small edits that make no node and free none, as the tree has them: a parent; entering a list and leaving it.
 -- Assumes nothing.
+use Rattle.std.specs.Prelude.{Option, None, Some}
 use mathlib.Core.Path.{◌≡◌, refl, sym, ap, ◌∙◌, subst}
 use mathlib.Core.Bool.{Bool, true, false, cond, false≢true}
-use mathlib.Core.Option.{Option, none, some}
 use mathlib.Core.List.{List, map}
 use Prim.Native.Nat.{ℕ, ◌+◌, ◌-◌, ◌≤◌, ◌<◌}
 use native.Mathlib.Omega.{arith}
@@ -140,13 +140,13 @@ module _ (d : Doc) (t : Tree) (hs : ℕ → ℕ) (S : Sim d t hs) where
       x : ℕ
       x = handle_index (hs b)
 
-      parent : (c : ℕ) → t.live c ≡ true → Dec (c ≡ b) → get_or (set d.parents x (map_option hs o)) (handle_index (hs c)) none ≡ map_option hs (update t.parent b o c)
+      parent : (c : ℕ) → t.live c ≡ true → Dec (c ≡ b) → get_or (set d.parents x (map_option hs o)) (handle_index (hs c)) None ≡ map_option hs (update t.parent b o c)
       parent c lc (yes e) =
           rw (e, update_same t.parent b o)
-          (get_or-set_same d.parents x (map_option hs o) none (omega (arith, birth-below d t hs S b lb, S.shape.parents)))
+          (get_or-set_same d.parents x (map_option hs o) None (omega (arith, birth-below d t hs S b lb, S.shape.parents)))
       parent c lc (no n) =
           rw (update_other t.parent b o c n)
-          (get_or-set_other d.parents x (handle_index (hs c)) (map_option hs o) none (λ e. n (S.inj c b lc lb e)) ∙ S.parent c lc)
+          (get_or-set_other d.parents x (handle_index (hs c)) (map_option hs o) None (λ e. n (S.inj c b lc lb e)) ∙ S.parent c lc)
 
   -- ---- into a list and out of it
 
@@ -196,8 +196,8 @@ module _ (d : Doc) (t : Tree) (hs : ℕ → ℕ) (S : Sim d t hs) where
           sym (map-without hs b (t.lists w p) (λ c m f. hs-injective d t hs S c b (W.downward w p c lp (count-mem c (t.lists w p) m)).0 lb f))
 
       go : (o : Option ℕ) → t.parent b ≡ o → Sim (unlink_from (map_option hs o) d (hs b)) (tree.unlink_from o t b) hs
-      go none e = S
-      go (some p) e =
+      go None e = S
+      go (Some p) e =
           let lp : t.live p ≡ true = (W.upward b p lb e).0 in
           rw (which-of-kind b lb)
           (edit-list w p (without (eqb b) (t.lists w p)) (λ r. without (eqb (hs b)) (list_of (d.arenas w) r)) (λ r. removed (d.arenas w) r (hs b)) lp
@@ -211,15 +211,15 @@ unfolding tree.unlink set_list
 unlink-live t b c = go (t.parent b)
   where
     go : (o : Option ℕ) → (tree.unlink_from o t b).live c ≡ t.live c
-    go none = refl
-    go (some p) = refl
+    go None = refl
+    go (Some p) = refl
 
 module _ (d : Doc) (t : Tree) (hs : ℕ → ℕ) (S : Sim d t hs) where
   pub sim-attach : (w : Which) (p i b : ℕ) → t.live p ≡ true → owns w (t.kind p) ≡ true → room_fits d w (hs p) ≡ true → t.live b ≡ true
       → Sim (attach d w (hs p) i (hs b)) (tree.attach t w p i b) hs
   unfolding set_parent tree.set_parent
   sim-attach w p i b lp own room lb =
-      sim-link (set_parent d (hs b) (some (hs p))) (tree.set_parent t b (some p)) hs (sim-set_parent d t hs S b (some p) lb) w p i b lp own room
+      sim-link (set_parent d (hs b) (Some (hs p))) (tree.set_parent t b (Some p)) hs (sim-set_parent d t hs S b (Some p) lb) w p i b lp own room
 
   pub sim-unhook : WF t → (b : ℕ) → t.live b ≡ true → Sim (unhook d (hs b)) (tree.unhook t b) hs
-  sim-unhook W b lb = sim-set_parent (unlink d (hs b)) (tree.unlink t b) hs (sim-unlink d t hs S W b lb) b none (unlink-live t b b ∙ lb)
+  sim-unhook W b lb = sim-set_parent (unlink d (hs b)) (tree.unlink t b) hs (sim-unlink d t hs S W b lb) b None (unlink-live t b b ∙ lb)

@@ -1,8 +1,8 @@
 -- A fresh document stands for the seed: the Root alone.
 -- Assumes nothing.
+use Rattle.std.specs.Prelude.{Option, None}
 use mathlib.Core.Path.{◌≡◌, refl, sym, ap, ◌∙◌, subst}
 use mathlib.Core.Bool.{true, false, false≢true, true≢false}
-use mathlib.Core.Option.{Option, none}
 use mathlib.Core.List.Memᴰ
 use mathlib.Core.List.{[], ◌∷◌, Memᴰ}
 use Prim.Native.Nat.{ℕ, zero, suc, ◌*◌, ◌≤◌, ◌<◌}
@@ -143,7 +143,7 @@ module _ (l : Limits) where
           let e : i ≡ 0 = omega arith in
           absurd (true≢false (ap (λ (j : ℕ). even (generation_at d j)) (sym e) ∙ o))
 
-      no-parent : (i : ℕ) → get_or d.parents i none ≡ none
+      no-parent : (i : ℕ) → get_or d.parents i None ≡ None
       no-parent zero = refl
       no-parent (suc i) = refl
 

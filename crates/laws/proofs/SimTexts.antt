@@ -1,9 +1,10 @@
 -- A replaced text: the node keeps its text slot or takes one, and shows the new bytes; the order stays current.
 -- Assumes nothing.
+use Rattle.std.proofs.lemmas.Option.{same_Some}
+use Rattle.std.specs.Prelude.{Option, None, Some}
 use mathlib.Core.Path.{◌≡◌, refl, sym, ap, ap₂, ◌∙◌, subst}
 use mathlib.Core.Logic.{◌≢◌}
 use mathlib.Core.Bool.{true, false, false≢true}
-use mathlib.Core.Option.{Option, none, some, some-injective}
 use mathlib.Core.List.Memᴰ
 use mathlib.Core.List.{List, [], ◌∷◌, ◌++◌, Memᴰ}
 use Prim.Native.Nat.{ℕ, ◌<◌}
@@ -45,7 +46,7 @@ module _ (d : Doc) (t : Tree) (hs : ℕ → ℕ) (S : Sim d t hs) (b : ℕ) (lb 
   sim-set_kind k p kind changed R fits names has shown =
       record {
         shape = record {
-          kinds = length-set d.kinds x (some k) ∙ S.shape.kinds;
+          kinds = length-set d.kinds x (Some k) ∙ S.shape.kinds;
           parents = S.shape.parents;
           ranges = S.shape.ranges;
           ids = S.shape.ids;
@@ -93,11 +94,11 @@ module _ (d : Doc) (t : Tree) (hs : ℕ → ℕ) (S : Sim d t hs) (b : ℕ) (lb 
       d' : Doc
       d' = set_kind d (hs b) k p
 
-      set_here : get_or (set d.kinds x (some k)) x none ≡ some k
-      set_here = get_or-set_same d.kinds x (some k) none (omega (arith, birth-below d t hs S b lb, S.shape.kinds))
+      set_here : get_or (set d.kinds x (Some k)) x None ≡ Some k
+      set_here = get_or-set_same d.kinds x (Some k) None (omega (arith, birth-below d t hs S b lb, S.shape.kinds))
 
-      set_other : (i : ℕ) → i ≢ x → get_or (set d.kinds x (some k)) i none ≡ get_or d.kinds i none
-      set_other i n = get_or-set_other d.kinds x i (some k) none n
+      set_other : (i : ℕ) → i ≢ x → get_or (set d.kinds x (Some k)) i None ≡ get_or d.kinds i None
+      set_other i n = get_or-set_other d.kinds x i (Some k) None n
 
       kind-here : kind_at d' (hs b) ≡ k
       kind-here = ap (or_else root) set_here
@@ -105,21 +106,21 @@ module _ (d : Doc) (t : Tree) (hs : ℕ → ℕ) (S : Sim d t hs) (b : ℕ) (lb 
       kind-other : (a : ℕ) → t.live a ≡ true → a ≢ b → kind_at d' (hs a) ≡ kind_at d (hs a)
       kind-other a la n = ap (or_else root) (set_other (handle_index (hs a)) (λ e. n (S.inj a b la lb e)))
 
-      was : get_or d.kinds x none ≡ some (kind_at d (hs b))
+      was : get_or d.kinds x None ≡ Some (kind_at d (hs b))
       was = live-node d x (S.lives b lb)
 
-      is-some : (i : ℕ) → Dec (i ≡ x) → is_some (get_or (set d.kinds x (some k)) i none) ≡ is_some (get_or d.kinds i none)
+      is-some : (i : ℕ) → Dec (i ≡ x) → is_some (get_or (set d.kinds x (Some k)) i None) ≡ is_some (get_or d.kinds i None)
       is-some i (yes e) = rw e (ap is_some set_here ∙ sym (ap is_some was))
       is-some i (no n) = ap is_some (set_other i n)
 
       live_same : (i : ℕ) → live_slot d' i ≡ live_slot d i
       live_same i = rw (is-some i (ℕ_discrete i x))
 
-      unused : (w : Which) (i : ℕ) (c : Kind ℕ (Option ℕ)) → get_or (set d.kinds x (some k)) i none ≡ some c → has_range w c ≡ false → Dec (i ≡ x)
+      unused : (w : Which) (i : ℕ) (c : Kind ℕ (Option ℕ)) → get_or (set d.kinds x (Some k)) i None ≡ Some c → has_range w c ≡ false → Dec (i ≡ x)
           → range_in d w i ≡ block 0 0
       unused w i c q h (yes e) =
-          let s : k ≡ c = some-injective k c (sym set_here ∙ ap (λ (j : ℕ). get_or (set d.kinds x (some k)) j none) (sym e) ∙ q) in
-          S.shape.unused w i (kind_at d (hs b)) (ap (λ (j : ℕ). get_or d.kinds j none) e ∙ was) (sym (has w) ∙ ap (has_range w) s ∙ h)
+          let s : k ≡ c = same_Some k c (sym set_here ∙ ap (λ (j : ℕ). get_or (set d.kinds x (Some k)) j None) (sym e) ∙ q) in
+          S.shape.unused w i (kind_at d (hs b)) (ap (λ (j : ℕ). get_or d.kinds j None) e ∙ was) (sym (has w) ∙ ap (has_range w) s ∙ h)
       unused w i c q h (no n) = S.shape.unused w i c (sym (set_other i n) ∙ q) h
 
       mine : (s : ℕ) → Memᴰ s (fields d (hs b)) → (t.live b ≡ true) × Memᴰ s (fields d (hs b))
@@ -143,36 +144,36 @@ module _ (d : Doc) (t : Tree) (hs : ℕ → ℕ) (S : Sim d t hs) (b : ℕ) (lb 
 
 -- ---- the field whose text is replaced stands last among the node's fields
 
-last-held : (front : List (Option ℕ)) (o : Option ℕ) (y : ℕ) → o ≡ some y → Memᴰ y (slots_held (front ++ (o ∷ [])))
+last-held : (front : List (Option ℕ)) (o : Option ℕ) (y : ℕ) → o ≡ Some y → Memᴰ y (slots_held (front ++ (o ∷ [])))
 last-held front o y e =
     subst (λ (l : List ℕ). Memᴰ y l) (sym (held-snoc front o)) (Memᴰ.append_right (slots_held front) (held-here o [] y e))
 
 module _ (p : Pool) (F : FreeOnce p) (front : List (Option ℕ)) (s : List ℕ) where
   field-repooled : (o : Option ℕ) → Holds p (slots_held (front ++ (o ∷ [])))
       → Repooled p (replaced p o s) (slots_held (front ++ (o ∷ []))) (slots_held (front ++ (replaced_slot p o s ∷ []))) o
-  field-repooled none H =
-      let e : slots_held (front ++ (none ∷ [])) ≡ slots_held front = held-snoc front none ∙ append-none (slots_held front) in
-      subst (λ (l : List ℕ). Repooled p (replaced p none s) l (slots_held (front ++ (replaced_slot p none s ∷ []))) none) (sym e)
+  field-repooled None H =
+      let e : slots_held (front ++ (None ∷ [])) ≡ slots_held front = held-snoc front None ∙ append-none (slots_held front) in
+      subst (λ (l : List ℕ). Repooled p (replaced p None s) l (slots_held (front ++ (replaced_slot p None s ∷ []))) None) (sym e)
       (rw (replaced-none p s) (stored-repooled p s front F (subst (Holds p) e H)))
-  field-repooled (some y) H =
-      replaced-repooled p y s (slots_held (front ++ (some y ∷ []))) F H (last-held front (some y) y refl)
+  field-repooled (Some y) H =
+      replaced-repooled p y s (slots_held (front ++ (Some y ∷ []))) F H (last-held front (Some y) y refl)
 
   field_back : (o : Option ℕ) → Holds p (slots_held (front ++ (o ∷ []))) → text_at (replaced p o s) (replaced_slot p o s) ≡ s
-  field_back none H = rw (replaced-none p s) (stored_same p s (free-texts p F))
-  field_back (some y) H = replaced-same p y s (H.inside y (last-held front (some y) y refl))
+  field_back None H = rw (replaced-none p s) (stored_same p s (free-texts p F))
+  field_back (Some y) H = replaced-same p y s (H.inside y (last-held front (Some y) y refl))
 
 -- the field before it keeps its text
 before-kept : (p : Pool) → FreeOnce p → (q o : Option ℕ) (s : List ℕ) → Holds p (slots_held (q ∷ o ∷ [])) → text_at (replaced p o s) q ≡ text_at p q
-before-kept p F none o s H = refl
-before-kept p F (some y) o s H =
-    (field-repooled p F (some y ∷ []) s o H).same y (H.inside y (Memᴰ.head refl)) (H.not_free y (Memᴰ.head refl))
+before-kept p F None o s H = refl
+before-kept p F (Some y) o s H =
+    (field-repooled p F (Some y ∷ []) s o H).same y (H.inside y (Memᴰ.head refl)) (H.not_free y (Memᴰ.head refl))
     (λ e. H.once.0 (held-here o [] y e))
 
 module _ (d : Doc) (t : Tree) (hs : ℕ → ℕ) (S : Sim d t hs) where
-  replacement-fits : (o : Option ℕ) (s : List ℕ) → ((y : ℕ) → o ≡ some y → y < length d.pool.texts) → replacement_fits d o s ≡ true → PoolFits d (replaced d.pool o s)
-  replacement-fits none s h e = rw (replaced-none d.pool s) (one-fits d t hs S s e)
-  replacement-fits (some y) s h e =
-      let q : Pool = replaced d.pool (some y) s in
+  replacement-fits : (o : Option ℕ) (s : List ℕ) → ((y : ℕ) → o ≡ Some y → y < length d.pool.texts) → replacement_fits d o s ≡ true → PoolFits d (replaced d.pool o s)
+  replacement-fits None s h e = rw (replaced-none d.pool s) (one-fits d t hs S s e)
+  replacement-fits (Some y) s h e =
+      let q : Pool = replaced d.pool (Some y) s in
       let f = fits_both (length q.texts) d.limits.texts (length (bytes_of q.texts)) d.limits.text_bytes
       (sym (replaced-fits d.limits.texts d.limits.text_bytes d.pool S.within.texts y s (h y refl)) ∙ e) in
       record { texts = f.0; bytes = f.1 }
@@ -195,8 +196,8 @@ module _ (d : Doc) (t : Tree) (hs : ℕ → ℕ) (S : Sim d t hs) where
           ∙ may
         where
           some-map : (o : Option (Option ℕ)) → is_some (map_option (bytes_at d) o) ≡ is_some o
-          some-map none = refl
-          some-map (some u) = refl
+          some-map None = refl
+          some-map (Some u) = refl
 
       -- the node's fields are these, the last one the field whose text is replaced
       held : (k : Kind ℕ (Option ℕ)) (l : List (Option ℕ)) → kind_at d (hs b) ≡ k → texts_of k ≡ l → Holds p (slots_held l)
@@ -220,8 +221,8 @@ module _ (d : Doc) (t : Tree) (hs : ℕ → ℕ) (S : Sim d t hs) where
           H : Holds p (slots_held (front ++ (o ∷ [])))
           H = held k (front ++ (o ∷ [])) e old
 
-      go : (k : Kind ℕ (Option ℕ)) → kind_at d (hs b) ≡ k → is_some (replaceable k) ≡ true → replacement_fits d (or_else none (replaceable k)) s ≡ true
-          → Sim (set_kind d (hs b) (with_text k (replaced_slot p (or_else none (replaceable k)) s)) (replaced p (or_else none (replaceable k)) s)) (tree.replaced t b s) hs
+      go : (k : Kind ℕ (Option ℕ)) → kind_at d (hs b) ≡ k → is_some (replaceable k) ≡ true → replacement_fits d (or_else None (replaceable k)) s ≡ true
+          → Sim (set_kind d (hs b) (with_text k (replaced_slot p (or_else None (replaceable k)) s)) (replaced p (or_else None (replaceable k)) s)) (tree.replaced t b s) hs
       go root e h f = absurd (false≢true h)
       go (element n) e h f = absurd (false≢true h)
       go (comment u) e h f = absurd (false≢true h)

@@ -1,9 +1,9 @@
 -- `detach`, `reparent` and `insert_at` are the plain tree's.
 -- Assumes nothing.
+use Rattle.std.specs.Prelude.{Option, None, Some}
 use mathlib.Core.Path.{◌≡◌, refl, sym, ap, ◌∙◌, subst}
 use mathlib.Core.Logic.{inr}
-use mathlib.Core.Bool.{Bool, true, false, not, cond, ◌&&◌}
-use mathlib.Core.Option.{Option, none, some}
+use mathlib.Core.Bool.{Bool, true, false, not, ◌&&◌}
 use mathlib.Core.List.{List}
 use Prim.Native.Nat.{ℕ}
 use native.Mathlib.Omega.{arith}
@@ -15,7 +15,7 @@ use Rattle.model.specs.Edits.{unhook, attach}
 use Rattle.model.specs.Arguments.{first, refuse_if}
 use Rattle.model.specs.Checks.{check_move}
 use Rattle.model.specs.Calls.{step, answers, done, move_to, room_fits, other_than, detach, reparent, insert-at}
-use Rattle.model.specs.Tree.{Tree, means, view, above}
+use Rattle.model.specs.Tree.{Tree, means, above}
 use Rattle.model.specs.Tree as tree
 use Rattle.laws.proofs.Wf.{WF}
 use Rattle.laws.proofs.Sim.{Sim}
@@ -34,7 +34,7 @@ pub record Movable (node parent : Kind Name (List ℕ)) (cycle taken : Bool) : T
   pub no-cycle : cycle ≡ false
   pub one-root : is_root parent ≡ true → is_element node ≡ true → taken ≡ false
 
-move-passed : (node parent : Kind Name (List ℕ)) (cycle taken : Bool) → check_move (some node) (some parent) cycle taken ≡ 0 → Movable node parent cycle taken
+move-passed : (node parent : Kind Name (List ℕ)) (cycle taken : Bool) → check_move (Some node) (Some parent) cycle taken ≡ 0 → Movable node parent cycle taken
 move-passed node parent cycle taken e =
     let a = first-zero (child_kind node) _ e in
     let b = first-zero (refuse_if (not (is_container parent)) 8) _ a.1 in
@@ -66,7 +66,7 @@ module _ (d : Doc) (t : Tree) (hs : ℕ → ℕ) (S : Sim d t hs) (W : WF t) whe
 
   -- the two nodes live, and the checks pass
   moved_same : (p : ℕ) (at : Option ℕ) (c : ℕ) → t.live p ≡ true → t.live c ≡ true
-      → Movable (t.kind c) (t.kind p) (above t.births t.parent c p) (other_than (tree.root_element t) (some c))
+      → Movable (t.kind c) (t.kind p) (above t.births t.parent c p) (other_than (tree.root_element t) (Some c))
       → room_fits (unhook d (hs c)) children (hs p) ≡ true
       → Same hs
       (answers (attach (unhook d (hs c)) children (hs p) (or_else (length (list_at (unhook d (hs c)) children (hs p))) at) (hs c)) done)
@@ -82,11 +82,11 @@ module _ (d : Doc) (t : Tree) (hs : ℕ → ℕ) (S : Sim d t hs) (W : WF t) whe
         refl,
       )
 
-  move_live : (at : Option ℕ) (c : ℕ) → t.live c ≡ true → (p : ℕ) → Plain hs d (move_to d p at (hs c)) (tree.move_to t (means t hs p) at (some c))
+  move_live : (at : Option ℕ) (c : ℕ) → t.live c ≡ true → (p : ℕ) → Plain hs d (move_to d p at (hs c)) (tree.move_to t (means t hs p) at (Some c))
   move_live at c lc =
-      by-handle d t hs S (λ p. Plain hs d (move_to d p at (hs c)) (tree.move_to t (means t hs p) at (some c)))
+      by-handle d t hs S (λ p. Plain hs d (move_to d p at (hs c)) (tree.move_to t (means t hs p) at (Some c)))
       (λ p lp. rw (view-live d t hs S W c lc, view-live d t hs S W p lp, means-live d t hs S p lp, cycle-agrees S W c p lc lp, taken-by-other d t hs S W c lc)
-      (guarded-full d t hs S W (check_move (some (t.kind c)) (some (t.kind p)) (above t.births t.parent c p) (other_than (tree.root_element t) (some c)))
+      (guarded-full d t hs S W (check_move (Some (t.kind c)) (Some (t.kind p)) (above t.births t.parent c p) (other_than (tree.root_element t) (Some c)))
       (room_fits (unhook d (hs c)) children (hs p)) _ _
       (λ z room. inr (moved_same p at c lp lc (move-passed (t.kind c) (t.kind p) _ _ z) room))))
       (λ p m r. rw (view-live d t hs S W c lc, m, r)
@@ -99,7 +99,7 @@ module _ (d : Doc) (t : Tree) (hs : ℕ → ℕ) (S : Sim d t hs) (W : WF t) whe
       (λ c m r. rw (m, r) (guarded-full d t hs S W 6 (room_fits (unhook d c) children p) _ (tree.answers t done) (λ z room. absurd (omega arith))))
 
   pub step-reparent : (c p : ℕ) → Plain hs d (step (reparent c p) d) (tree.step (reparent c p) hs t)
-  step-reparent c p = step_move none p c
+  step-reparent c p = step_move None p c
 
   pub step-insert : (p i c : ℕ) → Plain hs d (step (insert-at p i c) d) (tree.step (insert-at p i c) hs t)
-  step-insert p i c = step_move (some i) p c
+  step-insert p i c = step_move (Some i) p c

@@ -1,9 +1,9 @@
 -- `document_order` and `compact` are the plain tree's.
 -- Assumes nothing.
+use Rattle.std.specs.Prelude.{Option, None, Some}
 use mathlib.Core.Path.{◌≡◌, refl, sym, ap, ◌∙◌, subst}
 use mathlib.Core.Logic.{inr}
 use mathlib.Core.Bool.{Bool, true, false, cond}
-use mathlib.Core.Option.{Option, none, some}
 use mathlib.Core.List.{List, [], ◌∷◌}
 use Prim.Native.Nat.{ℕ, zero, suc, ◌≤◌, ◌<◌}
 use native.Mathlib.Omega.{arith}
@@ -36,7 +36,7 @@ get_or-default (x ∷ l) (suc i) d e h = get_or-default l i d e (omega arith)
 key-word : (w : ℕ) (k : Option ℕ) → w < 4294967296 → key_of w ≡ k → w ≡ or_else no_key k
 key-word w k small e = go (ltb w no_key) refl e
   where
-    go : (q : Bool) → ltb w no_key ≡ q → cond q (some w) none ≡ k → w ≡ or_else no_key k
+    go : (q : Bool) → ltb w no_key ≡ q → cond q (Some w) None ≡ k → w ≡ or_else no_key k
     go true f e = ap (or_else no_key) e
     go false f e = (let h = ltb-false w no_key f in omega arith) ∙ ap (or_else no_key) e
 

@@ -1,9 +1,9 @@
 -- The reading calls answer as the plain tree does.
 -- Assumes nothing.
+use Rattle.std.specs.Prelude.{Option, None, Some}
 use mathlib.Core.Path.{◌≡◌, refl, sym, ap, ◌∙◌}
 use mathlib.Core.Logic.{inr}
 use mathlib.Core.Bool.{Bool, true, false, cond, false≢true, true≢false}
-use mathlib.Core.Option.{Option, none, some}
 use mathlib.Core.List.Memᴰ
 use mathlib.Core.List.{List, [], ◌∷◌, ◌++◌, Memᴰ}
 use Prim.Native.Nat.{ℕ, zero, suc, ◌<◌}
@@ -16,9 +16,8 @@ use Rattle.records.specs.Handles.{handle_index}
 use Rattle.names.specs.Table.{Name}
 use Rattle.model.specs.Kinds.{Kind, root, element, attribute, text, comment, namespace, instruction, Which, children, attributes, namespaces, map_kind, is_element}
 use Rattle.model.specs.Doc.{Doc, resolves, live_slot, handle_at, live_nodes, kind_at, pair_at, bytes_at, node_at, view_at, shown_list, range_in, no_key}
-use Rattle.model.specs.Calls.{Answer, refused, made, truth, node, listed, kind_is, key, key_of, shown_kind, step}
-use Rattle.model.specs.Calls.{root-of, kind-of, parent-of, children-of, root-element, is-element, name_of, attribute-nodes, namespace-nodes, nodes, order-key}
-use Rattle.model.specs.Tree.{Tree, means, view, key_in}
+use Rattle.model.specs.Calls.{Answer, refused, made, truth, node, listed, kind_is, key, key_of, shown_kind, step, root-of, kind-of, parent-of, children-of, root-element, is-element, name_of, attribute-nodes, namespace-nodes, nodes, order-key}
+use Rattle.model.specs.Tree.{Tree, means, key_in}
 use Rattle.model.specs.Tree as tree
 use Rattle.laws.specs.Claim.{shown, through_handles}
 use Rattle.laws.proofs.Wf.{WF}
@@ -54,10 +53,10 @@ module _ (d : Doc) (t : Tree) (hs : ℕ → ℕ) (S : Sim d t hs) (W : WF t) whe
     where
       go : (q : Bool)
           → shown d (cond q
-          (kind_is (some (map_kind (λ n. n) (bytes_at d) (kind_at d h))) (cond (is_element (kind_at d h)) (range_in d attributes (handle_index h)) (block 0 0)) (cond (is_element (kind_at d h)) (range_in d namespaces (handle_index h)) (block 0 0)))
-          (kind_is none (block 0 0) (block 0 0)))
-          ≡ kind_is (cond q (some (node_at d h)) none) tt tt
-      go true = ap (λ (k : Kind Name (List ℕ)). kind_is (some k) tt tt) (map-kind-twice (pair_at d) (bytes_at d) (kind_at d h))
+          (kind_is (Some (map_kind (λ n. n) (bytes_at d) (kind_at d h))) (cond (is_element (kind_at d h)) (range_in d attributes (handle_index h)) (block 0 0)) (cond (is_element (kind_at d h)) (range_in d namespaces (handle_index h)) (block 0 0)))
+          (kind_is None (block 0 0) (block 0 0)))
+          ≡ kind_is (cond q (Some (node_at d h)) None) tt tt
+      go true = ap (λ (k : Kind Name (List ℕ)). kind_is (Some k) tt tt) (map-kind-twice (pair_at d) (bytes_at d) (kind_at d h))
       go false = refl
 
   pub step-kind : (h : ℕ) → Matches hs (kind-of h) d (step (kind-of h) d) (tree.step (kind-of h) hs t)

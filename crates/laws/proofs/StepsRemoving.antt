@@ -1,9 +1,9 @@
 -- `remove` and `remove_attribute` are the plain tree's.
 -- Assumes nothing.
+use Rattle.std.specs.Prelude.{Option, None, Some}
 use mathlib.Core.Path.{◌≡◌, refl, ap, ◌∙◌}
 use mathlib.Core.Logic.{◌≢◌, inr}
 use mathlib.Core.Bool.{Bool, true, false}
-use mathlib.Core.Option.{Option, none, some}
 use mathlib.Core.List.{List, [], ◌∷◌}
 use Prim.Native.Nat.{ℕ}
 use native.Mathlib.Omega.{arith}
@@ -14,7 +14,7 @@ use Rattle.model.specs.Doc.{Doc, any_option, map_option}
 use Rattle.model.specs.Arguments.{first, refuse_if, not_utf8}
 use Rattle.model.specs.Checks.{check_remove_attribute}
 use Rattle.model.specs.Calls.{step, answers, done, removed, remove_attribute_found, remove, remove-attribute}
-use Rattle.model.specs.Tree.{Tree, means}
+use Rattle.model.specs.Tree.{Tree}
 use Rattle.model.specs.Tree as tree
 use Rattle.laws.proofs.Wf.{WF}
 use Rattle.laws.proofs.Sim.{Sim}
@@ -53,8 +53,8 @@ module _ (d : Doc) (t : Tree) (hs : ℕ → ℕ) (S : Sim d t hs) (W : WF t) whe
 
   found-removed : (e : ℕ) → t.live e ≡ true → (n : Name) (o : Option ℕ) → find (tree.has_name t n) (t.lists attributes e) ≡ o
       → Plain hs d (remove_attribute_found (map_option hs o) d) (tree.remove_attribute_found o t)
-  found-removed e le n none f = inr (S, W, refl)
-  found-removed e le n (some a) f =
+  found-removed e le n None f = inr (S, W, refl)
+  found-removed e le n (Some a) f =
       let m = find-some (tree.has_name t n) (t.lists attributes e) a f in
       let r = removed-same a (listed-live d t hs S W attributes e a le m.0) (not_root W a (named-not-root (same_name n) (t.kind a) m.1)) in
       inr (r.0, r.1, refl)
@@ -63,7 +63,7 @@ module _ (d : Doc) (t : Tree) (hs : ℕ → ℕ) (S : Sim d t hs) (W : WF t) whe
   step-remove-attribute h ns local =
       by-handle d t hs S (λ h. Plain hs d (step (remove-attribute h ns local) d) (tree.step (remove-attribute h ns local) hs t))
       (λ e le. rw (view-live d t hs S W e le, means-live d t hs S e le, find-attribute-agrees d t hs S W (name ns local) e le)
-      (guarded-same d t hs S W (check_remove_attribute ns local (some (t.kind e))) (remove_attribute_found (map_option hs (find (tree.has_name t (name ns local)) (t.lists attributes e))) d)
+      (guarded-same d t hs S W (check_remove_attribute ns local (Some (t.kind e))) (remove_attribute_found (map_option hs (find (tree.has_name t (name ns local)) (t.lists attributes e))) d)
       (tree.remove_attribute_found (find (tree.has_name t (name ns local)) (t.lists attributes e)) t)
       (λ z. found-removed e le (name ns local) (find (tree.has_name t (name ns local)) (t.lists attributes e)) refl)))
       (λ h m r. rw (m, r) (guarded-same d t hs S W (first (not_utf8 (ns ∷ local ∷ [])) 6) _ _ (λ z. absurd (stale-refused (not_utf8 (ns ∷ local ∷ [])) z))))

@@ -1,9 +1,9 @@
 -- `set_text`, `set_attribute` and `declare_namespace` are the plain tree's.
 -- Assumes nothing.
+use Rattle.std.specs.Prelude.{Option, None, Some}
 use mathlib.Core.Path.{◌≡◌, refl, sym, ap, ◌∙◌, subst}
 use mathlib.Core.Logic.{◌≢◌, inr}
 use mathlib.Core.Bool.{Bool, true, false, not, cond, ◌&&◌, false≢true, true≢false}
-use mathlib.Core.Option.{Option, none, some}
 use mathlib.Core.List.{List, [], ◌∷◌, ◌++◌, map}
 use Prim.Native.Nat.{ℕ, zero, suc, ◌<◌}
 use native.Mathlib.Omega.{arith}
@@ -21,7 +21,7 @@ use Rattle.model.specs.Arguments.{first, not_utf8}
 use Rattle.model.specs.Checks.{check_set_text, check_set_attribute, declaration_check, check_declare_namespace, a_text, an_element, text_under}
 use Rattle.model.specs.Calls.{Answered, made, done, step, answers, guarded, full_unless, node_fits, text_fits, two_fit, name_fits_in, replacement_fits, replaceable_at, with_replaced, appended, with_two, stored_two, find_attribute, find_namespace, set_attribute_found, declare_namespace_found, set-text, set-attribute, declare-namespace}
 use Rattle.model.specs.Calls as calls
-use Rattle.model.specs.Tree.{Tree, means, update}
+use Rattle.model.specs.Tree.{Tree, update}
 use Rattle.model.specs.Tree as tree
 use Rattle.laws.specs.Claim.{no_step, handle_told_from, last_of, shown, through_handles}
 use Rattle.laws.proofs.Wf.{WF}
@@ -72,7 +72,7 @@ last_of-snoc [] x = refl
 last_of-snoc (y ∷ []) x = refl
 last_of-snoc (y ∷ z ∷ l) x = last_of-snoc (z ∷ l) x
 
-element-passed : (k : Kind Name (List ℕ)) → an_element (some k) ≡ 0 → is_element k ≡ true
+element-passed : (k : Kind Name (List ℕ)) → an_element (Some k) ≡ 0 → is_element k ≡ true
 element-passed k e = not-false-true (is_element k) (refuse-zero (not (is_element k)) 6 e)
 
 -- the last in the list that the new birth joined
@@ -94,9 +94,9 @@ module _ (d : Doc) (t : Tree) (hs : ℕ → ℕ) (S : Sim d t hs) (W : WF t) whe
   step-set-text s =
       by-handle d t hs S (λ h. Plain hs d (step (set-text h s) d) (tree.step (set-text h s) hs t))
       (λ b lb. rw (view-live d t hs S W b lb, means-live d t hs S b lb, under-root-agrees d t hs S W b lb)
-      (guarded-full d t hs S W (check_set_text s (some (t.kind b)) (tree.under_root t (some b))) (replacement_fits d (replaceable_at d (hs b)) s)
+      (guarded-full d t hs S W (check_set_text s (Some (t.kind b)) (tree.under_root t (Some b))) (replacement_fits d (replaceable_at d (hs b)) s)
       (answers (with_replaced d (hs b) (replaceable_at d (hs b)) s) done) (tree.answers (tree.replaced t b s) done)
-      (λ z fits. replaced-same b s done done lb (text-replaceable (t.kind b) (refuse-zero (is_none (text_of (t.kind b))) 9 (first-zero (a_text (some (t.kind b))) (text_under (tree.under_root t (some b)) s) (first-zero (not_utf8 (s ∷ [])) _ z).1).0)) refl fits)))
+      (λ z fits. replaced-same b s done done lb (text-replaceable (t.kind b) (refuse-zero (is_none (text_of (t.kind b))) 9 (first-zero (a_text (Some (t.kind b))) (text_under (tree.under_root t (Some b)) s) (first-zero (not_utf8 (s ∷ [])) _ z).1).0)) refl fits)))
       (λ h m r. rw (m, r)
       (guarded-full d t hs S W (first (not_utf8 (s ∷ [])) 6) (replacement_fits d (replaceable_at d h) s) (answers (with_replaced d h (replaceable_at d h) s) done) (tree.answers (tree.replaced t 0 s) done)
       (λ z f. absurd (stale-refused (not_utf8 (s ∷ [])) z))))
@@ -134,8 +134,8 @@ module _ (d : Doc) (t : Tree) (hs : ℕ → ℕ) (S : Sim d t hs) (W : WF t) whe
 
   -- ---- attributes
 
-  found-attribute : (n : Name) (value : List ℕ) (e a : ℕ) → t.live e ≡ true → find (tree.has_name t n) (t.lists attributes e) ≡ some a
-      → Plain hs d (set_attribute_found (some (hs a)) d (hs e) n value) (tree.set_attribute_found (some a) t e n value)
+  found-attribute : (n : Name) (value : List ℕ) (e a : ℕ) → t.live e ≡ true → find (tree.has_name t n) (t.lists attributes e) ≡ Some a
+      → Plain hs d (set_attribute_found (Some (hs a)) d (hs e) n value) (tree.set_attribute_found (Some a) t e n value)
   found-attribute n value e a le f =
       let m = find-some (tree.has_name t n) (t.lists attributes e) a f in
       full-or d t hs S W (replacement_fits d (replaceable_at d (hs a)) value) (answers (with_replaced d (hs a) (replaceable_at d (hs a)) value) done) (tree.answers (tree.replaced t a value) done)
@@ -143,8 +143,8 @@ module _ (d : Doc) (t : Tree) (hs : ℕ → ℕ) (S : Sim d t hs) (W : WF t) whe
 
   new-attribute : (n : Name) (value : List ℕ) (e : ℕ) → t.live e ≡ true → is_element (t.kind e) ≡ true
       → (name_fits_in d n && (text_fits d (slots_for value) 0 (length value) && node_fits d attributes (hs e)) ≡ true
-      → hs t.births ≡ handle_told_from (some (hs e)) (answers (appended d attributes (hs e) (attribute (number_of d.names n) (stored_slot d.pool value)) (stored d.pool value) (interned d.names n)) done))
-      → Plain hs d (set_attribute_found none d (hs e) n value) (tree.set_attribute_found none t e n value)
+      → hs t.births ≡ handle_told_from (Some (hs e)) (answers (appended d attributes (hs e) (attribute (number_of d.names n) (stored_slot d.pool value)) (stored d.pool value) (interned d.names n)) done))
+      → Plain hs d (set_attribute_found None d (hs e) n value) (tree.set_attribute_found None t e n value)
   new-attribute n value e le el told =
       full-or d t hs S W (name_fits_in d n && (text_fits d (slots_for value) 0 (length value) && node_fits d attributes (hs e)))
       (answers (appended d attributes (hs e) (attribute (number_of d.names n) (stored_slot d.pool value)) (stored d.pool value) (interned d.names n)) done)
@@ -158,23 +158,23 @@ module _ (d : Doc) (t : Tree) (hs : ℕ → ℕ) (S : Sim d t hs) (W : WF t) whe
       inr (r.0, r.1, refl))
 
   set-attribute-live : (ns local value : List ℕ) (e : ℕ) → t.live e ≡ true → (o : Option ℕ) → find (tree.has_name t (name ns local)) (t.lists attributes e) ≡ o
-      → (t.births < (cond (no_step (guarded (check_set_attribute ns local value (some (t.kind e)) (is_some (map_option hs o))) d (set_attribute_found (map_option hs o) d (hs e) (name ns local) value)).answer) t
-      (tree.guarded (check_set_attribute ns local value (some (t.kind e)) (is_some o)) t (tree.set_attribute_found o t e (name ns local) value)).tree).births
-      → hs t.births ≡ handle_told_from (some (hs e)) (guarded (check_set_attribute ns local value (some (t.kind e)) (is_some (map_option hs o))) d (set_attribute_found (map_option hs o) d (hs e) (name ns local) value)))
-      → Plain hs d (guarded (check_set_attribute ns local value (some (t.kind e)) (is_some (map_option hs o))) d (set_attribute_found (map_option hs o) d (hs e) (name ns local) value))
-      (tree.guarded (check_set_attribute ns local value (some (t.kind e)) (is_some o)) t (tree.set_attribute_found o t e (name ns local) value))
-  set-attribute-live ns local value e le (some a) f told =
-      guarded-same d t hs S W (check_set_attribute ns local value (some (t.kind e)) true) (set_attribute_found (some (hs a)) d (hs e) (name ns local) value) (tree.set_attribute_found (some a) t e (name ns local) value)
+      → (t.births < (cond (no_step (guarded (check_set_attribute ns local value (Some (t.kind e)) (is_some (map_option hs o))) d (set_attribute_found (map_option hs o) d (hs e) (name ns local) value)).answer) t
+      (tree.guarded (check_set_attribute ns local value (Some (t.kind e)) (is_some o)) t (tree.set_attribute_found o t e (name ns local) value)).tree).births
+      → hs t.births ≡ handle_told_from (Some (hs e)) (guarded (check_set_attribute ns local value (Some (t.kind e)) (is_some (map_option hs o))) d (set_attribute_found (map_option hs o) d (hs e) (name ns local) value)))
+      → Plain hs d (guarded (check_set_attribute ns local value (Some (t.kind e)) (is_some (map_option hs o))) d (set_attribute_found (map_option hs o) d (hs e) (name ns local) value))
+      (tree.guarded (check_set_attribute ns local value (Some (t.kind e)) (is_some o)) t (tree.set_attribute_found o t e (name ns local) value))
+  set-attribute-live ns local value e le (Some a) f told =
+      guarded-same d t hs S W (check_set_attribute ns local value (Some (t.kind e)) true) (set_attribute_found (Some (hs a)) d (hs e) (name ns local) value) (tree.set_attribute_found (Some a) t e (name ns local) value)
       (λ z. found-attribute (name ns local) value e a le f)
-  set-attribute-live ns local value e le none f told =
+  set-attribute-live ns local value e le None f told =
       let n : Name = name ns local in
       let fits : Bool = name_fits_in d n && (text_fits d (slots_for value) 0 (length value) && node_fits d attributes (hs e)) in
       let o : calls.Out = answers (appended d attributes (hs e) (attribute (number_of d.names n) (stored_slot d.pool value)) (stored d.pool value) (interned d.names n)) done in
       let u : tree.Out = tree.answers (tree.appended t attributes e (attribute n value)) done in
-      let check : ℕ = check_set_attribute ns local value (some (t.kind e)) false in
-      guarded-same d t hs S W check (set_attribute_found none d (hs e) n value) u
-      (λ z. new-attribute n value e le (element-passed (t.kind e) (first-zero (an_element (some (t.kind e))) _ (first-zero (not_utf8 (ns ∷ local ∷ value ∷ [])) _ z).1).0)
-      (λ fit. told-nested check fits (some (hs e)) o u refl (appended-births d t hs S W attributes e (attribute n value)) told z fit))
+      let check : ℕ = check_set_attribute ns local value (Some (t.kind e)) false in
+      guarded-same d t hs S W check (set_attribute_found None d (hs e) n value) u
+      (λ z. new-attribute n value e le (element-passed (t.kind e) (first-zero (an_element (Some (t.kind e))) _ (first-zero (not_utf8 (ns ∷ local ∷ value ∷ [])) _ z).1).0)
+      (λ fit. told-nested check fits (Some (hs e)) o u refl (appended-births d t hs S W attributes e (attribute n value)) told z fit))
 
   pub step-set-attribute : (ns local value : List ℕ) (h : ℕ) → Told hs (set-attribute h ns local value) d t
       → Plain hs d (step (set-attribute h ns local value) d) (tree.step (set-attribute h ns local value) hs t)
@@ -189,8 +189,8 @@ module _ (d : Doc) (t : Tree) (hs : ℕ → ℕ) (S : Sim d t hs) (W : WF t) whe
 
   -- ---- namespaces
 
-  found-namespace : (prefix uri : List ℕ) (e a : ℕ) → t.live e ≡ true → find (tree.has_prefix t prefix) (t.lists namespaces e) ≡ some a
-      → Plain hs d (declare_namespace_found (some (hs a)) d (hs e) prefix uri) (tree.declare_namespace_found (some a) t e prefix uri)
+  found-namespace : (prefix uri : List ℕ) (e a : ℕ) → t.live e ≡ true → find (tree.has_prefix t prefix) (t.lists namespaces e) ≡ Some a
+      → Plain hs d (declare_namespace_found (Some (hs a)) d (hs e) prefix uri) (tree.declare_namespace_found (Some a) t e prefix uri)
   found-namespace prefix uri e a le f =
       let m = find-some (tree.has_prefix t prefix) (t.lists namespaces e) a f in
       full-or d t hs S W (replacement_fits d (replaceable_at d (hs a)) uri) (answers (with_replaced d (hs a) (replaceable_at d (hs a)) uri) (made (hs a))) (tree.answers (tree.replaced t a uri) (made a))
@@ -198,7 +198,7 @@ module _ (d : Doc) (t : Tree) (hs : ℕ → ℕ) (S : Sim d t hs) (W : WF t) whe
 
   new-namespace : (prefix uri : List ℕ) (e : ℕ) → t.live e ≡ true → is_element (t.kind e) ≡ true
       → ((two_fit d prefix uri && node_fits d namespaces (hs e)) ≡ true → hs t.births ≡ next_handle d)
-      → Plain hs d (declare_namespace_found none d (hs e) prefix uri) (tree.declare_namespace_found none t e prefix uri)
+      → Plain hs d (declare_namespace_found None d (hs e) prefix uri) (tree.declare_namespace_found None t e prefix uri)
   new-namespace prefix uri e le el told =
       full-or d t hs S W (two_fit d prefix uri && node_fits d namespaces (hs e))
       (answers (appended d namespaces (hs e) (with_two d namespace prefix uri) (stored_two d prefix uri) d.names) (made (next_handle d)))
@@ -210,21 +210,21 @@ module _ (d : Doc) (t : Tree) (hs : ℕ → ℕ) (S : Sim d t hs) (W : WF t) whe
       inr (r.0, r.1, ap {B = calls.Answer ℕ Name (Unit {0})} made (sym q)))
 
   declare-live : (prefix uri : List ℕ) (e : ℕ) → t.live e ≡ true → (o : Option ℕ) → find (tree.has_prefix t prefix) (t.lists namespaces e) ≡ o
-      → (t.births < (cond (no_step (guarded (check_declare_namespace prefix uri (some (t.kind e))) d (declare_namespace_found (map_option hs o) d (hs e) prefix uri)).answer) t
-      (tree.guarded (check_declare_namespace prefix uri (some (t.kind e))) t (tree.declare_namespace_found o t e prefix uri)).tree).births
-      → hs t.births ≡ handle_told_from none (guarded (check_declare_namespace prefix uri (some (t.kind e))) d (declare_namespace_found (map_option hs o) d (hs e) prefix uri)))
-      → Plain hs d (guarded (check_declare_namespace prefix uri (some (t.kind e))) d (declare_namespace_found (map_option hs o) d (hs e) prefix uri))
-      (tree.guarded (check_declare_namespace prefix uri (some (t.kind e))) t (tree.declare_namespace_found o t e prefix uri))
-  declare-live prefix uri e le (some a) f told =
-      guarded-same d t hs S W (check_declare_namespace prefix uri (some (t.kind e))) (declare_namespace_found (some (hs a)) d (hs e) prefix uri) (tree.declare_namespace_found (some a) t e prefix uri)
+      → (t.births < (cond (no_step (guarded (check_declare_namespace prefix uri (Some (t.kind e))) d (declare_namespace_found (map_option hs o) d (hs e) prefix uri)).answer) t
+      (tree.guarded (check_declare_namespace prefix uri (Some (t.kind e))) t (tree.declare_namespace_found o t e prefix uri)).tree).births
+      → hs t.births ≡ handle_told_from None (guarded (check_declare_namespace prefix uri (Some (t.kind e))) d (declare_namespace_found (map_option hs o) d (hs e) prefix uri)))
+      → Plain hs d (guarded (check_declare_namespace prefix uri (Some (t.kind e))) d (declare_namespace_found (map_option hs o) d (hs e) prefix uri))
+      (tree.guarded (check_declare_namespace prefix uri (Some (t.kind e))) t (tree.declare_namespace_found o t e prefix uri))
+  declare-live prefix uri e le (Some a) f told =
+      guarded-same d t hs S W (check_declare_namespace prefix uri (Some (t.kind e))) (declare_namespace_found (Some (hs a)) d (hs e) prefix uri) (tree.declare_namespace_found (Some a) t e prefix uri)
       (λ z. found-namespace prefix uri e a le f)
-  declare-live prefix uri e le none f told =
+  declare-live prefix uri e le None f told =
       let o : calls.Out = answers (appended d namespaces (hs e) (with_two d namespace prefix uri) (stored_two d prefix uri) d.names) (made (next_handle d)) in
       let u : tree.Out = tree.answers (tree.appended t namespaces e (namespace prefix uri)) (made t.births) in
-      let check : ℕ = check_declare_namespace prefix uri (some (t.kind e)) in
-      guarded-same d t hs S W check (declare_namespace_found none d (hs e) prefix uri) u
-      (λ z. new-namespace prefix uri e le (element-passed (t.kind e) (first-zero (an_element (some (t.kind e))) (declaration_check prefix uri) (first-zero (not_utf8 (prefix ∷ uri ∷ [])) _ z).1).0)
-      (λ fit. told-nested check (two_fit d prefix uri && node_fits d namespaces (hs e)) none o u refl (appended-births d t hs S W namespaces e (namespace prefix uri)) told z fit))
+      let check : ℕ = check_declare_namespace prefix uri (Some (t.kind e)) in
+      guarded-same d t hs S W check (declare_namespace_found None d (hs e) prefix uri) u
+      (λ z. new-namespace prefix uri e le (element-passed (t.kind e) (first-zero (an_element (Some (t.kind e))) (declaration_check prefix uri) (first-zero (not_utf8 (prefix ∷ uri ∷ [])) _ z).1).0)
+      (λ fit. told-nested check (two_fit d prefix uri && node_fits d namespaces (hs e)) None o u refl (appended-births d t hs S W namespaces e (namespace prefix uri)) told z fit))
 
   pub step-declare-namespace : (prefix uri : List ℕ) (h : ℕ) → Told hs (declare-namespace h prefix uri) d t
       → Plain hs d (step (declare-namespace h prefix uri) d) (tree.step (declare-namespace h prefix uri) hs t)

@@ -1,9 +1,10 @@
 -- What a new node brings: a pool and a name table that hold what it shows, everything else as it was, within the limits; from the Full tests.
 -- Assumes nothing.
+use Rattle.std.proofs.lemmas.Option.{none-some}
+use Rattle.std.specs.Prelude.{Option, None, Some}
 use mathlib.Core.Path.{◌≡◌, refl, sym, ap, ap₂, ◌∙◌, subst}
 use mathlib.Core.Logic.{◌⊎◌, inl, inr}
 use mathlib.Core.Bool.{Bool, true, false, ◌&&◌, cond}
-use mathlib.Core.Option.{Option, none, some, none-ne-some}
 use mathlib.Core.List.{List, [], ◌∷◌, Memᴰ}
 use Prim.Native.Nat.{ℕ, ◌+◌, ◌≤◌, ◌<◌}
 use native.Mathlib.Omega.{arith}
@@ -38,7 +39,7 @@ pub record NamesKeep (d : Doc) (n : List (Option Name)) : Type 0 where
 
 -- the pool p and the names n hold what the kind k shows as the tree's kind
 pub record Stores (d : Doc) (k : Kind ℕ (Option ℕ)) (p : Pool) (n : List (Option Name)) (kind : Kind Name (List ℕ)) : Type 0 where
-  pub pool : Repooled d.pool p [] (slots_held (texts_of k)) none
+  pub pool : Repooled d.pool p [] (slots_held (texts_of k)) None
   pub pool_fits : PoolFits d p
   pub names : NamesKeep d n
   pub named : (i : ℕ) → Memᴰ i (names_of k) → i < length n
@@ -84,7 +85,7 @@ module _ (d : Doc) (t : Tree) (hs : ℕ → ℕ) (S : Sim d t hs) where
 
   -- ---- texts
 
-  one-text : (s : List ℕ) → Repooled d.pool (stored d.pool s) [] (slots_held (stored_slot d.pool s ∷ [])) none
+  one-text : (s : List ℕ) → Repooled d.pool (stored d.pool s) [] (slots_held (stored_slot d.pool s ∷ [])) None
   one-text s = stored-repooled d.pool s [] free_in (holds-none d.pool)
 
   pub one-fits : (s : List ℕ) → text_fits d (slots_for s) 0 (length s) ≡ true → PoolFits d (stored d.pool s)
@@ -100,10 +101,10 @@ module _ (d : Doc) (t : Tree) (hs : ℕ → ℕ) (S : Sim d t hs) where
     abbrev middle : Pool
     middle = stored d.pool s
 
-    second : Repooled middle (stored middle u) (slots_held (stored_slot d.pool s ∷ [])) (slots_held (stored_slot d.pool s ∷ stored_slot middle u ∷ [])) none
+    second : Repooled middle (stored middle u) (slots_held (stored_slot d.pool s ∷ [])) (slots_held (stored_slot d.pool s ∷ stored_slot middle u ∷ [])) None
     second = stored-repooled middle u (stored_slot d.pool s ∷ []) (one-text s).free (one-text s).holds
 
-    two-texts : Repooled d.pool (stored middle u) [] (slots_held (stored_slot d.pool s ∷ stored_slot middle u ∷ [])) none
+    two-texts : Repooled d.pool (stored middle u) [] (slots_held (stored_slot d.pool s ∷ stored_slot middle u ∷ [])) None
     two-texts =
         repooled-then d.pool middle (stored middle u) [] (slots_held (stored_slot d.pool s ∷ []))
         (slots_held (stored_slot d.pool s ∷ stored_slot middle u ∷ [])) (one-text s) second
@@ -119,10 +120,10 @@ module _ (d : Doc) (t : Tree) (hs : ℕ → ℕ) (S : Sim d t hs) where
     first_back = go (stored_slot d.pool s) refl ∙ one-back s
       where
         go : (o : Option ℕ) → stored_slot d.pool s ≡ o → text_at (stored middle u) o ≡ text_at middle o
-        go none e = refl
-        go (some x) e =
+        go None e = refl
+        go (Some x) e =
             let m : Memᴰ x (slots_held (stored_slot d.pool s ∷ [])) = held-here (stored_slot d.pool s) [] x e in
-            second.same x ((one-text s).holds.inside x m) ((one-text s).holds.not_free x m) (λ q. absurd (none-ne-some x q))
+            second.same x ((one-text s).holds.inside x m) ((one-text s).holds.not_free x m) (λ q. absurd (none-some x q))
 
     second_back : text_at (stored middle u) (stored_slot middle u) ≡ u
     second_back = stored_same middle u (free-texts middle (one-text s).free)
@@ -140,7 +141,7 @@ module _ (d : Doc) (t : Tree) (hs : ℕ → ℕ) (S : Sim d t hs) where
       }
 
   -- a node without a name
-  unnamed : (k : Kind ℕ (Option ℕ)) (p : Pool) (kind : Kind Name (List ℕ)) → names_of k ≡ [] → Repooled d.pool p [] (slots_held (texts_of k)) none → PoolFits d p
+  unnamed : (k : Kind ℕ (Option ℕ)) (p : Pool) (kind : Kind Name (List ℕ)) → names_of k ≡ [] → Repooled d.pool p [] (slots_held (texts_of k)) None → PoolFits d p
       → shown_by d.names p k ≡ kind → Stores d k p d.names kind
   unnamed k p kind e R f q =
       record {

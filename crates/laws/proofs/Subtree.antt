@@ -1,9 +1,9 @@
 -- What `free_subtree` visits: the handles of the births at and below the top, each once.
 -- Assumes nothing.
+use Rattle.std.specs.Prelude.{Some}
 use mathlib.Core.Path.{◌≡◌, sym, ap, ap₂, ◌∙◌}
 use mathlib.Core.Logic.{◌⊎◌, inl, inr}
 use mathlib.Core.Bool.{true}
-use mathlib.Core.Option.{some}
 use mathlib.Core.List.Memᴰ
 use mathlib.Core.List.{List, [], ◌∷◌, ◌++◌, map, reverse, Memᴰ}
 use Prim.Native.Nat.{ℕ}
@@ -44,13 +44,13 @@ module _ {t : Tree} (N : Nested t) where
       one (inl q) = (children, q)
       one (inr q) = two (Memᴰ.append_cases (t.lists attributes x) q)
 
-  pushed-kid : (x y : ℕ) → t.live x ≡ true → Memᴰ y (pushed_after t x) → (t.live y ≡ true) × (t.parent y ≡ some x)
+  pushed-kid : (x y : ℕ) → t.live x ≡ true → Memᴰ y (pushed_after t x) → (t.live y ≡ true) × (t.parent y ≡ Some x)
   pushed-kid x y lx m =
       let o = pushed-which x y m in
       let k = N.downward o.0 x y lx o.1 in
       (k.0, k.1)
 
-  pushed-all : (x y : ℕ) → t.live y ≡ true → t.parent y ≡ some x → Memᴰ y (pushed_after t x)
+  pushed-all : (x y : ℕ) → t.live y ≡ true → t.parent y ≡ Some x → Memᴰ y (pushed_after t x)
   pushed-all x y ly e = mem-reverse (t.lists children x ++ (t.lists attributes x ++ t.lists namespaces x)) (go (which_of (t.kind y)) (N.upward y x ly e).2)
     where
       go : (w : Which) → Memᴰ y (t.lists w x) → Memᴰ y (t.lists children x ++ (t.lists attributes x ++ t.lists namespaces x))
@@ -108,7 +108,7 @@ module _ {d : Doc} {t : Tree} {hs : ℕ → ℕ} (S : Sim d t hs) where
 
   -- a walk of the document along lists that are the tree's is the walk of the tree
   pub walk-births : Nested t → (outer : ℕ → List ℕ) (inner : ℕ → List ℕ) → ((x : ℕ) → t.live x ≡ true → outer (hs x) ≡ map hs (inner x))
-      → ((x y : ℕ) → t.live x ≡ true → Memᴰ y (inner x) → (t.live y ≡ true) × (t.parent y ≡ some x)) → ((x : ℕ) → t.live x ≡ true → Distinct (inner x))
+      → ((x y : ℕ) → t.live x ≡ true → Memᴰ y (inner x) → (t.live y ≡ true) × (t.parent y ≡ Some x)) → ((x : ℕ) → t.live x ≡ true → Distinct (inner x))
       → (b : ℕ) → t.live b ≡ true → walk outer (length d.gens) (hs b ∷ []) ≡ map hs (visit inner t.births b)
   walk-births N outer inner agree kid once b lb =
       walk-called hs (λ x. t.live x ≡ true) outer inner agree (λ x y lx m. (kid x y lx m).0) (length d.gens) (b ∷ []) (λ y m. go y (Memᴰ.cases_cons m))

@@ -1,9 +1,9 @@
 -- The handles of the births can be told for every list of calls: each birth's is the one that its call shows, and a step of the plain
 -- tree looks only at the handles of the births so far.
 -- Assumes nothing.
+use Rattle.std.specs.Prelude.{Option, None, Some}
 use mathlib.Core.Path.{◌≡◌, refl, sym, ap, ap₂, ◌∙◌, subst}
 use mathlib.Core.Bool.{Bool, true, false, cond, ◌&&◌}
-use mathlib.Core.Option.{Option, none, some}
 use mathlib.Core.List.{List, [], ◌∷◌}
 use Prim.Native.Nat.{ℕ, zero, suc, ◌≤◌, ◌<◌}
 use native.Mathlib.Omega.{arith}
@@ -29,7 +29,7 @@ Same n hs gs = (b : ℕ) → b < n → hs b ≡ gs b
 live_below-same : (live : ℕ → Bool) (hs gs : ℕ → ℕ) (h n : ℕ) → Same n hs gs → live_below live hs h n ≡ live_below live gs h n
 live_below-same live hs gs h zero s = refl
 live_below-same live hs gs h (suc n) s =
-    ap₂ (λ (g : ℕ) (r : Option ℕ). cond (live n && eqb g h) (some n) r)
+    ap₂ (λ (g : ℕ) (r : Option ℕ). cond (live n && eqb g h) (Some n) r)
     (s n (omega arith))
     (live_below-same live hs gs h n (λ b l. s b (omega arith)))
 
@@ -81,8 +81,8 @@ guarded-keeps n t u a e = guarded-grows n t (answers u a) (omega arith)
 
 births-unlink_from : (p : Option ℕ) (t : Tree) (b : ℕ) → (unlink_from p t b).births ≡ t.births
 unfolding set_list
-births-unlink_from none t b = refl
-births-unlink_from (some p) t b = refl
+births-unlink_from None t b = refl
+births-unlink_from (Some p) t b = refl
 
 births-unhook : (t : Tree) (b : ℕ) → (unhook t b).births ≡ t.births
 unfolding set_parent unlink
@@ -106,17 +106,17 @@ appends-grows check t p k =
 
 set-attribute-grows : (f : Option ℕ) (t : Tree) (e : ℕ) (n : Name) (value : List ℕ) → Grows t (set_attribute_found f t e n value)
 unfolding set_kind
-set-attribute-grows none t e n value = omega (arith, births-appended t attributes e (attribute n value))
-set-attribute-grows (some a) t e n value = omega arith
+set-attribute-grows None t e n value = omega (arith, births-appended t attributes e (attribute n value))
+set-attribute-grows (Some a) t e n value = omega arith
 
 declare-namespace-grows : (f : Option ℕ) (t : Tree) (e : ℕ) (prefix uri : List ℕ) → Grows t (declare_namespace_found f t e prefix uri)
 unfolding set_kind
-declare-namespace-grows none t e prefix uri = omega (arith, births-appended t namespaces e (namespace prefix uri))
-declare-namespace-grows (some a) t e prefix uri = omega arith
+declare-namespace-grows None t e prefix uri = omega (arith, births-appended t namespaces e (namespace prefix uri))
+declare-namespace-grows (Some a) t e prefix uri = omega arith
 
 remove-attribute-grows : (f : Option ℕ) (t : Tree) → Grows t (remove_attribute_found f t)
-remove-attribute-grows none t = omega arith
-remove-attribute-grows (some a) t = omega (arith, births-removed t a)
+remove-attribute-grows None t = omega arith
+remove-attribute-grows (Some a) t = omega (arith, births-removed t a)
 
 move-grows : (t : Tree) (p at c : Option ℕ) → Grows t (move_to t p at c)
 move-grows t p at c =
@@ -131,7 +131,7 @@ step-grows : (c : Call) (hs : ℕ → ℕ) (t : Tree) → Grows t (tree.step c h
 unfolding set_kind set_current
 step-grows (append-element p ns local) hs t =
     let b = means t hs p in
-    appends-grows (check_append_element ns local (view t b) (other_than (root_element t) none)) t (birth b) (element (name ns local))
+    appends-grows (check_append_element ns local (view t b) (other_than (root_element t) None)) t (birth b) (element (name ns local))
 step-grows (append-text p s) hs t = let b = means t hs p in appends-grows (check_append_text s (view t b)) t (birth b) (text s)
 step-grows (append-comment p s) hs t = let b = means t hs p in appends-grows (check_append_comment s (view t b)) t (birth b) (comment s)
 step-grows (append-pi p target content) hs t =
@@ -166,8 +166,8 @@ step-grows (remove h) hs t =
 step-grows (detach h) hs t =
     let b = means t hs h in
     guarded-keeps (check_detach (view t b)) t (unhook t (birth b)) done (births-unhook t (birth b))
-step-grows (reparent c p) hs t = move-grows t (means t hs p) none (means t hs c)
-step-grows (insert-at p i c) hs t = move-grows t (means t hs p) (some i) (means t hs c)
+step-grows (reparent c p) hs t = move-grows t (means t hs p) None (means t hs c)
+step-grows (insert-at p i c) hs t = move-grows t (means t hs p) (Some i) (means t hs c)
 step-grows document-order hs t = omega arith
 step-grows compact hs t = omega arith
 step-grows root-of hs t = omega arith

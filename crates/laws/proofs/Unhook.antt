@@ -1,9 +1,10 @@
 -- A node taken off its parent: what changes, and that the rules of the plain tree hold, but for the one on nodes that have no parent.
 -- Assumes nothing.
+use Rattle.std.proofs.lemmas.Option.{none-some, same_Some}
+use Rattle.std.specs.Prelude.{Option, None, Some}
 use mathlib.Core.Path.{◌≡◌, refl, sym, ap, ◌∙◌, subst}
 use mathlib.Core.Logic.{◌≢◌, ◌⊎◌, inl, inr}
 use mathlib.Core.Bool.{true}
-use mathlib.Core.Option.{Option, none, some, none-ne-some, some-injective}
 use mathlib.Core.List.{List, Memᴰ}
 use Prim.Native.Nat.{ℕ}
 use native.Mathlib.Decide.{ℕ_discrete}
@@ -26,8 +27,8 @@ unlink-rest t b = go (t.parent b)
   where
     go : (o : Option ℕ)
         → ((unlink_from o t b).live ≡ t.live) × ((unlink_from o t b).kind ≡ t.kind) × ((unlink_from o t b).parent ≡ t.parent) × ((unlink_from o t b).births ≡ t.births)
-    go none = (refl, refl, refl, refl)
-    go (some p) = (refl, refl, refl, refl)
+    go None = (refl, refl, refl, refl)
+    go (Some p) = (refl, refl, refl, refl)
 
 module _ (t : Tree) (b : ℕ) where
   pub unhook-live : (unhook t b).live ≡ t.live
@@ -42,13 +43,13 @@ module _ (t : Tree) (b : ℕ) where
   unfolding set_parent
   unhook-births = (unlink-rest t b).3
 
-  pub unhook-parent : (unhook t b).parent ≡ update t.parent b none
+  pub unhook-parent : (unhook t b).parent ≡ update t.parent b None
   unfolding set_parent
-  unhook-parent = ap (λ (f : ℕ → Option ℕ). update f b none) (unlink-rest t b).2
+  unhook-parent = ap (λ (f : ℕ → Option ℕ). update f b None) (unlink-rest t b).2
 
-  pub unhook-parentless : (unhook t b).parent b ≡ none
+  pub unhook-parentless : (unhook t b).parent b ≡ None
   unfolding set_parent
-  unhook-parentless = update_same (unlink t b).parent b none
+  unhook-parentless = update_same (unlink t b).parent b None
 
 module _ {t : Tree} (N : Nested t) where
   -- what it does to the lists
@@ -61,9 +62,9 @@ module _ {t : Tree} (N : Nested t) where
       go : (o : Option ℕ) → t.parent b ≡ o
           → Distinct ((unlink_from o t b).lists v q) × ((x : ℕ) → Memᴰ x ((unlink_from o t b).lists v q) → Memᴰ x (t.lists v q) × (x ≢ b))
           × ((x : ℕ) → x ≢ b → Memᴰ x (t.lists v q) → Memᴰ x ((unlink_from o t b).lists v q))
-      go none e =
-          (N.once v q lq, (λ x m. (m, λ f. none-ne-some q (sym e ∙ ap t.parent (sym f) ∙ (N.downward v q x lq m).1))), λ x n m. m)
-      go (some p) e = part (list_cases t.lists w p l v q)
+      go None e =
+          (N.once v q lq, (λ x m. (m, λ f. none-some q (sym e ∙ ap t.parent (sym f) ∙ (N.downward v q x lq m).1))), λ x n m. m)
+      go (Some p) e = part (list_cases t.lists w p l v q)
         where
           w : Which
           w = which_of (t.kind b)
@@ -89,7 +90,7 @@ module _ {t : Tree} (N : Nested t) where
                   m,
                   λ g.
                       let d = N.downward v q x lq m in
-                      f.0 (sym d.2 ∙ ap (λ (z : ℕ). which_of (t.kind z)) g) (some-injective q p (sym d.1 ∙ ap t.parent g ∙ e)),
+                      f.0 (sym d.2 ∙ ap (λ (z : ℕ). which_of (t.kind z)) g) (same_Some q p (sym d.1 ∙ ap t.parent g ∙ e)),
                 )),
                 λ x n m. m,
               )
@@ -103,21 +104,21 @@ module _ {t : Tree} (N : Nested t) where
     root_only = N.root_only;
     counted = N.counted;
     upward = λ x q lx. upward x q lx (ℕ_discrete x b);
-    downward = λ v q x lq m. let o = (unlinked b v q lq).1 x m in let u = N.downward v q x lq o.0 in (u.0, update_other t.parent b none x o.1 ∙ u.1, u.2);
+    downward = λ v q x lq m. let o = (unlinked b v q lq).1 x m in let u = N.downward v q x lq o.0 in (u.0, update_other t.parent b None x o.1 ∙ u.1, u.2);
     once = λ v q lq. (unlinked b v q lq).0;
-    ends = λ x lx. ends-update none (Ends.top (update_same t.parent b none)) (N.ends x lx);
+    ends = λ x lx. ends-update None (Ends.top (update_same t.parent b None)) (N.ends x lx);
     one_element = λ a c ma mc. N.one_element a c ((unlinked b children 0 N.root_live).1 a ma).0 ((unlinked b children 0 N.root_live).1 c mc).0;
   })
     where
-      root_parent : Dec (0 ≡ b) → update t.parent b none 0 ≡ none
-      root_parent (yes e) = rw (← e) (update_same t.parent 0 none)
-      root_parent (no n) = update_other t.parent b none 0 n ∙ N.root_parent
+      root_parent : Dec (0 ≡ b) → update t.parent b None 0 ≡ None
+      root_parent (yes e) = rw (← e) (update_same t.parent 0 None)
+      root_parent (no n) = update_other t.parent b None 0 n ∙ N.root_parent
 
-      upward : (x q : ℕ) → t.live x ≡ true → Dec (x ≡ b) → update t.parent b none x ≡ some q
+      upward : (x q : ℕ) → t.live x ≡ true → Dec (x ≡ b) → update t.parent b None x ≡ Some q
           → (t.live q ≡ true) × (owns (which_of (t.kind x)) (t.kind q) ≡ true) × Memᴰ x ((unlink t b).lists (which_of (t.kind x)) q)
-      upward x q lx (yes e) = rw (e, update_same t.parent b none) (λ g. absurd (none-ne-some q g))
+      upward x q lx (yes e) = rw (e, update_same t.parent b None) (λ g. absurd (none-some q g))
       upward x q lx (no n) =
-          rw (update_other t.parent b none x n)
+          rw (update_other t.parent b None x n)
           (λ g. let u = N.upward x q lx g in (u.0, u.1, (unlinked b (which_of (t.kind x)) q u.0).2 x n u.2))
 
   -- what stands in a list stood there before, and is another node

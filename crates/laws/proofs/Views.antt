@@ -1,8 +1,8 @@
 -- What a handle shows is what its birth shows: the views that the checks see, the lists that are shown, and what is found in them.
 -- Assumes nothing.
+use Rattle.std.specs.Prelude.{Option, None, Some}
 use mathlib.Core.Path.{◌≡◌, refl, sym, ap, ◌∙◌}
 use mathlib.Core.Bool.{Bool, true, false, not, cond}
-use mathlib.Core.Option.{Option, none, some}
 use mathlib.Core.List.{List, [], ◌∷◌, map, Memᴰ}
 use Prim.Native.Nat.{ℕ}
 use Rattle.words.specs.Lists.{find}
@@ -26,7 +26,7 @@ pub find-births : (hs : ℕ → ℕ) (p q : ℕ → Bool) (l : List ℕ) → ((c
 find-births hs p q [] h = refl
 find-births hs p q (c ∷ l) h = go (q c) (h c (Memᴰ.head refl)) (find-births hs p q l (λ e m. h e (Memᴰ.tail m)))
   where
-    go : (b : Bool) → p (hs c) ≡ b → find p (map hs l) ≡ map_option hs (find q l) → cond (p (hs c)) (some (hs c)) (find p (map hs l)) ≡ map_option hs (cond b (some c) (find q l))
+    go : (b : Bool) → p (hs c) ≡ b → find p (map hs l) ≡ map_option hs (find q l) → cond (p (hs c)) (Some (hs c)) (find p (map hs l)) ≡ map_option hs (cond b (Some c) (find q l))
     go true e ih = rw e
     go false e ih = rw e ih
 
@@ -39,8 +39,8 @@ module _ (d : Doc) (t : Tree) (hs : ℕ → ℕ) (S : Sim d t hs) (W : WF t) whe
   root-agrees b lb = sym (is_root-map (pair_at d) (bytes_at d) (kind_at d (hs b))) ∙ ap is_root (S.kind b lb)
 
   -- the checks see the same
-  pub view-live : (b : ℕ) → t.live b ≡ true → view_at d (hs b) ≡ some (t.kind b)
-  view-live b lb = rw (resolves-live d t hs S b lb) (ap {B = Option (Kind Name (List ℕ))} some (S.kind b lb))
+  pub view-live : (b : ℕ) → t.live b ≡ true → view_at d (hs b) ≡ Some (t.kind b)
+  view-live b lb = rw (resolves-live d t hs S b lb) (ap {B = Option (Kind Name (List ℕ))} Some (S.kind b lb))
 
   pub view-agrees : (h : ℕ) → view_at d h ≡ view t (means t hs h)
   view-agrees =
@@ -67,29 +67,29 @@ module _ (d : Doc) (t : Tree) (hs : ℕ → ℕ) (S : Sim d t hs) (W : WF t) whe
       ∙ find-births hs (shows_element d) (λ c. is_element (t.kind c)) (t.lists children 0) (λ c m. shows-element c (listed-live children 0 c S.root_live m))
 
   -- the element under the Root lives
-  pub root-element-live : (c : ℕ) → tree.root_element t ≡ some c → t.live c ≡ true
+  pub root-element-live : (c : ℕ) → tree.root_element t ≡ Some c → t.live c ≡ true
   root-element-live c e = listed-live children 0 c S.root_live (find-some _ (t.lists children 0) c e).0
 
-  pub taken-agrees : root_taken d none ≡ other_than (tree.root_element t) none
+  pub taken-agrees : root_taken d None ≡ other_than (tree.root_element t) None
   taken-agrees = rw root-element-agrees (go (tree.root_element t))
     where
-      go : (o : Option ℕ) → other_than (map_option hs o) none ≡ other_than o none
-      go none = refl
-      go (some r) = refl
+      go : (o : Option ℕ) → other_than (map_option hs o) None ≡ other_than o None
+      go None = refl
+      go (Some r) = refl
 
-  pub taken-by-other : (c : ℕ) → t.live c ≡ true → root_taken d (some (hs c)) ≡ other_than (tree.root_element t) (some c)
+  pub taken-by-other : (c : ℕ) → t.live c ≡ true → root_taken d (Some (hs c)) ≡ other_than (tree.root_element t) (Some c)
   taken-by-other c lc = rw root-element-agrees (go (tree.root_element t) refl)
     where
-      go : (o : Option ℕ) → tree.root_element t ≡ o → other_than (map_option hs o) (some (hs c)) ≡ other_than o (some c)
-      go none e = refl
-      go (some r) e = ap not (same-births d t hs S r c (root-element-live r e) lc)
+      go : (o : Option ℕ) → tree.root_element t ≡ o → other_than (map_option hs o) (Some (hs c)) ≡ other_than o (Some c)
+      go None e = refl
+      go (Some r) e = ap not (same-births d t hs S r c (root-element-live r e) lc)
 
-  pub under-root-agrees : (b : ℕ) → t.live b ≡ true → under_root d (hs b) ≡ tree.under_root t (some b)
+  pub under-root-agrees : (b : ℕ) → t.live b ≡ true → under_root d (hs b) ≡ tree.under_root t (Some b)
   under-root-agrees b lb = rw (S.parent b lb) (go (t.parent b) refl)
     where
       go : (o : Option ℕ) → t.parent b ≡ o → any_option (λ p. is_root (kind_at d p)) (map_option hs o) ≡ any_option (λ p. is_root (t.kind p)) o
-      go none e = refl
-      go (some p) e = root-agrees p (W.upward b p lb e).0
+      go None e = refl
+      go (Some p) e = root-agrees p (W.upward b p lb e).0
 
   -- attributes by equal pairs, namespace nodes by equal prefixes
   pub has-name-agrees : (n : Name) (b : ℕ) → t.live b ≡ true → has_name d n (hs b) ≡ tree.has_name t n b
@@ -98,8 +98,8 @@ module _ (d : Doc) (t : Tree) (hs : ℕ → ℕ) (S : Sim d t hs) (W : WF t) whe
       ∙ ap (any_option (same_name n)) (sym (attribute_name-map (pair_at d) (bytes_at d) (kind_at d (hs b))) ∙ ap attribute_name (S.kind b lb))
     where
       through : (o : Option ℕ) → any_option (λ m. same_name n (pair_at d m)) o ≡ any_option (same_name n) (map_option (pair_at d) o)
-      through none = refl
-      through (some m) = refl
+      through None = refl
+      through (Some m) = refl
 
   pub has-prefix-agrees : (p : List ℕ) (b : ℕ) → t.live b ≡ true → has_prefix d p (hs b) ≡ tree.has_prefix t p b
   has-prefix-agrees p b lb =
@@ -107,8 +107,8 @@ module _ (d : Doc) (t : Tree) (hs : ℕ → ℕ) (S : Sim d t hs) (W : WF t) whe
       ∙ ap (any_option (same_bytes p)) (sym (prefix_of-map (pair_at d) (bytes_at d) (kind_at d (hs b))) ∙ ap prefix_of (S.kind b lb))
     where
       through : (o : Option (Option ℕ)) → any_option (λ s. same_bytes p (bytes_at d s)) o ≡ any_option (same_bytes p) (map_option (bytes_at d) o)
-      through none = refl
-      through (some s) = refl
+      through None = refl
+      through (Some s) = refl
 
   pub find-attribute-agrees : (n : Name) (e : ℕ) → t.live e ≡ true → find_attribute d (hs e) n ≡ map_option hs (find (tree.has_name t n) (t.lists attributes e))
   find-attribute-agrees n e le =

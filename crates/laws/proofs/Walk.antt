@@ -1,9 +1,9 @@
 -- A walk with a stack is the recursion; what it visits, and that it visits nothing twice.
 -- Assumes nothing.
+use Rattle.std.specs.Prelude.{Some}
 use mathlib.Core.Path.{◌≡◌, refl, sym, ap, ◌∙◌, subst}
 use mathlib.Core.Logic.{◌⊎◌, inl, inr}
 use mathlib.Core.Bool.{true}
-use mathlib.Core.Option.{some}
 use mathlib.Core.List.{List, [], ◌∷◌, ◌++◌, map, append_assoc, append-nil, Memᴰ}
 use Prim.Native.Nat.{ℕ, zero, suc, ◌+◌, ◌-◌, ◌≤◌, ◌<◌}
 use native.Mathlib.Omega.{arith}
@@ -99,7 +99,7 @@ module _ {A B : Type 0} (call : B → A) (Met : B → Type 0) (outer : A → Lis
 
 -- a walk of the plain tree along lists of births that have the visited one as parent
 module _ {t : Tree} (N : Nested t) (next : ℕ → List ℕ)
-    (kid : (x y : ℕ) → t.live x ≡ true → Memᴰ y (next x) → (t.live y ≡ true) × (t.parent y ≡ some x)) where
+    (kid : (x y : ℕ) → t.live x ≡ true → Memᴰ y (next x) → (t.live y ≡ true) × (t.parent y ≡ Some x)) where
   tall-above : (f x : ℕ) → (lx : t.live x ≡ true) (r : Ends t.parent x) → t.births < steps r + f → Tall next f x
   tall-above zero x lx r h = absurd (let q = steps-births N r lx in omega arith)
   tall-above (suc f) x lx r h =
@@ -113,7 +113,7 @@ module _ {t : Tree} (N : Nested t) (next : ℕ → List ℕ)
   visited zero x lx y m = absurd (mathlib.Core.List.Memᴰ.not-nil m)
   visited (suc f) x lx y m = go (λ k lk q. visited f k lk y q) (mathlib.Core.List.Memᴰ.cases_cons m)
     where
-      lower : {k z : ℕ} → t.parent k ≡ some x → Below t.parent k z → Below t.parent x z
+      lower : {k z : ℕ} → t.parent k ≡ Some x → Below t.parent k z → Below t.parent x z
       lower {k} e (Below.here q) = Below.down x (ap t.parent q ∙ e) (Below.here refl)
       lower {k} e (Below.down p f b) = Below.down p f (lower e b)
 
@@ -150,7 +150,7 @@ module _ {t : Tree} (N : Nested t) (next : ℕ → List ℕ)
           (steps_up x k rx ck.1 ∙ sym (steps_up x j rx cj.1))
 
   -- where `next` gives every live node with that parent, everything below is visited
-  pub below-visited : ((x y : ℕ) → t.live y ≡ true → t.parent y ≡ some x → Memᴰ y (next x))
+  pub below-visited : ((x y : ℕ) → t.live y ≡ true → t.parent y ≡ Some x → Memᴰ y (next x))
       → (x : ℕ) → t.live x ≡ true → {y : ℕ} → Below t.parent x y → t.live y ≡ true → Memᴰ y (visit next t.births x)
   below-visited every x lx (Below.here e) ly =
       subst (λ (z : ℕ). Memᴰ z (visit next t.births x)) (sym e) (visit-head next t.births x (tall x lx))

@@ -1,9 +1,10 @@
 -- What the calls do to the plain tree keeps its rules.
 -- Assumes nothing.
+use Rattle.std.proofs.lemmas.Option.{none-some, same_Some}
+use Rattle.std.specs.Prelude.{Option, None, Some}
 use mathlib.Core.Path.{◌≡◌, refl, sym, ap, ◌∙◌, subst}
 use mathlib.Core.Logic.{◌≢◌}
 use mathlib.Core.Bool.{Bool, true, false, not, ◌&&◌, true≢false, false≢true}
-use mathlib.Core.Option.{Option, none, some, none-ne-some, some-injective}
 use mathlib.Core.List.{List, [], Memᴰ}
 use Prim.Native.Nat.{ℕ}
 use native.Mathlib.Omega.{arith}
@@ -33,7 +34,7 @@ wf-seed = record {
   root_live = refl;
   root_only = λ b lb _. eqb-true b 0 lb;
   counted = λ b lb. let e = eqb-true b 0 lb in omega arith;
-  upward = λ b p lb e. absurd (none-ne-some p e);
+  upward = λ b p lb e. absurd (none-some p e);
   detached = λ b lb e. refl;
   downward = λ w p b lp m. absurd (mathlib.Core.List.Memᴰ.not-nil m);
   once = λ w p lp. tt;
@@ -111,7 +112,7 @@ wf-replaced {t} W b s = record {
     root_kind (yes e) = ap kind e ∙ update_same t.kind b (with_text (t.kind b) s) ∙ ap (λ (k : Kind Name (List ℕ)). with_text k s) (ap t.kind (sym e) ∙ W.root_kind)
     root_kind (no n) = update_other t.kind b (with_text (t.kind b) s) 0 n ∙ W.root_kind
 
-    upward : (x p : ℕ) → t.live x ≡ true → t.parent x ≡ some p
+    upward : (x p : ℕ) → t.live x ≡ true → t.parent x ≡ Some p
         → (t.live p ≡ true) × (owns (which_of (kind x)) (kind p) ≡ true) × Memᴰ x (t.lists (which_of (kind x)) p)
     upward x p lx e =
         let u = W.upward x p lx e in
@@ -121,21 +122,21 @@ wf-replaced {t} W b s = record {
 
 -- but for b, a node without a parent is one of a child list
 abbrev pub DetachedBut : ℕ → Tree → Type 0
-DetachedBut b t = (x : ℕ) → x ≢ b → t.live x ≡ true → t.parent x ≡ none → which_of (t.kind x) ≡ children
+DetachedBut b t = (x : ℕ) → x ≢ b → t.live x ≡ true → t.parent x ≡ None → which_of (t.kind x) ≡ children
 
 module _ {t : Tree} (N : Nested t) where
-  pub wf-attach : (w : Which) (p i b : ℕ) → DetachedBut b t → t.live b ≡ true → t.live p ≡ true → b ≢ 0 → t.parent b ≡ none → which_of (t.kind b) ≡ w
+  pub wf-attach : (w : Which) (p i b : ℕ) → DetachedBut b t → t.live b ≡ true → t.live p ≡ true → b ≢ 0 → t.parent b ≡ None → which_of (t.kind b) ≡ w
       → owns w (t.kind p) ≡ true → Clear t.parent b p → (p ≡ 0 → is_element (t.kind b) ≡ true → NoRootElement t) → WF (attach t w p i b)
   unfolding set_list set_parent
   wf-attach w p i b others lb lp b0 pb wb fp cl one =
       well-formed (nested-attach N w p i b lb lp b0 pb wb fp cl one) (λ x lx. detached x lx (ℕ_discrete x b))
     where
-      detached : (x : ℕ) → t.live x ≡ true → Dec (x ≡ b) → update t.parent b (some p) x ≡ none → which_of (t.kind x) ≡ children
-      detached x lx (yes e) = rw (e, update_same t.parent b (some p)) (λ f. absurd (none-ne-some p (sym f)))
-      detached x lx (no n) = rw (update_other t.parent b (some p) x n) (others x n lx)
+      detached : (x : ℕ) → t.live x ≡ true → Dec (x ≡ b) → update t.parent b (Some p) x ≡ None → which_of (t.kind x) ≡ children
+      detached x lx (yes e) = rw (e, update_same t.parent b (Some p)) (λ f. absurd (none-some p (sym f)))
+      detached x lx (no n) = rw (update_other t.parent b (Some p) x n) (others x n lx)
 
   -- the node and all below are gone
-  pub wf-gone : (b : ℕ) → DetachedBut b t → b ≢ 0 → t.parent b ≡ none → WF (gone t b)
+  pub wf-gone : (b : ℕ) → DetachedBut b t → b ≢ 0 → t.parent b ≡ None → WF (gone t b)
   unfolding gone
   wf-gone b others b0 pb = record {
     root_kind = N.root_kind;
@@ -168,12 +169,12 @@ module _ {t : Tree} (N : Nested t) where
       here (Clear.top n e) = n
       here (Clear.up p n e c) = n
 
-      over : {x p : ℕ} → Clear t.parent b x → t.parent x ≡ some p → Clear t.parent b p
-      over {x} {p} (Clear.top n e) f = absurd (none-ne-some p (sym e ∙ f))
-      over {x} {p} (Clear.up q n e c) f = subst (λ (z : ℕ). Clear t.parent b z) (some-injective q p (sym e ∙ f)) c
+      over : {x p : ℕ} → Clear t.parent b x → t.parent x ≡ Some p → Clear t.parent b p
+      over {x} {p} (Clear.top n e) f = absurd (none-some p (sym e ∙ f))
+      over {x} {p} (Clear.up q n e c) f = subst (λ (z : ℕ). Clear t.parent b z) (same_Some q p (sym e ∙ f)) c
 
-      not-b : (x p : ℕ) → t.parent x ≡ some p → x ≢ b
-      not-b x p e f = none-ne-some p (sym pb ∙ ap t.parent (sym f) ∙ e)
+      not-b : (x p : ℕ) → t.parent x ≡ Some p → x ≢ b
+      not-b x p e f = none-some p (sym pb ∙ ap t.parent (sym f) ∙ e)
 
   -- a walk through live nodes avoids what is not live
   live-clear : (n : ℕ) → ((x : ℕ) → t.live x ≡ true → x ≢ n) → {x : ℕ} → t.live x ≡ true → Ends t.parent x → Clear t.parent n x
@@ -192,8 +193,8 @@ module _ {t : Tree} (W : WF t) where
   wf-appended p k lp fp nr one =
       wf-attach (nested-born (nested W) k nr) (which_of k) p (length (update (t.lists (which_of k)) n [] p)) n others
       (update_same t.live n true) (update_other t.live n true p (new p lp) ∙ lp) (λ e. new 0 W.root_live (sym e))
-      (update_same t.parent n none) (ap which_of (update_same t.kind n k)) (ap (owns (which_of k)) (update_other t.kind n k p (new p lp)) ∙ fp)
-      (clear-update none (live-clear (nested W) n new lp (W.ends p lp))) (λ e el. none-under (one e (sym (ap is_element (update_same t.kind n k)) ∙ el)))
+      (update_same t.parent n None) (ap which_of (update_same t.kind n k)) (ap (owns (which_of k)) (update_other t.kind n k p (new p lp)) ∙ fp)
+      (clear-update None (live-clear (nested W) n new lp (W.ends p lp))) (λ e el. none-under (one e (sym (ap is_element (update_same t.kind n k)) ∙ el)))
     where
       n : ℕ
       n = t.births
@@ -204,7 +205,7 @@ module _ {t : Tree} (W : WF t) where
       others : DetachedBut n (born t k)
       others x m lx e =
           ap which_of (update_other t.kind n k x m)
-          ∙ W.detached x (sym (update_other t.live n true x m) ∙ lx) (sym (update_other t.parent n none x m) ∙ e)
+          ∙ W.detached x (sym (update_other t.live n true x m) ∙ lx) (sym (update_other t.parent n None x m) ∙ e)
 
       none-under : NoRootElement t → NoRootElement (born t k)
       none-under no-element a m el =
@@ -217,12 +218,12 @@ module _ {t : Tree} (W : WF t) where
   unhook-others b x n lx e =
       ap (λ (f : ℕ → Kind Name (List ℕ)). which_of (f x)) (unhook-kind t b)
       ∙ W.detached x (sym (ap (λ (f : ℕ → Bool). f x) (unhook-live t b)) ∙ lx)
-      (sym (ap (λ (f : ℕ → Option ℕ). f x) (unhook-parent t b) ∙ update_other t.parent b none x n) ∙ e)
+      (sym (ap (λ (f : ℕ → Option ℕ). f x) (unhook-parent t b) ∙ update_other t.parent b None x n) ∙ e)
 
   pub wf-unhooked : (b : ℕ) → which_of (t.kind b) ≡ children → WF (unhook t b)
   wf-unhooked b wb = well-formed (nested-unhook (nested W) b) (λ x lx e. go x lx e (ℕ_discrete x b))
     where
-      go : (x : ℕ) → (unhook t b).live x ≡ true → (unhook t b).parent x ≡ none → Dec (x ≡ b) → which_of ((unhook t b).kind x) ≡ children
+      go : (x : ℕ) → (unhook t b).live x ≡ true → (unhook t b).parent x ≡ None → Dec (x ≡ b) → which_of ((unhook t b).kind x) ≡ children
       go x lx e (yes f) = ap (λ (f : ℕ → Kind Name (List ℕ)). which_of (f x)) (unhook-kind t b) ∙ ap (λ (z : ℕ). which_of (t.kind z)) f ∙ wb
       go x lx e (no n) = unhook-others b x n lx e
 
@@ -237,7 +238,7 @@ module _ {t : Tree} (W : WF t) where
       wf-attach (nested-unhook (nested W) c) children p (or_else (length ((unhook t c).lists children p)) at) c (unhook-others c)
       (ap (λ (f : ℕ → Bool). f c) (unhook-live t c) ∙ lc) (ap (λ (f : ℕ → Bool). f p) (unhook-live t c) ∙ lp) c0 (unhook-parentless t c)
       (ap which_of (kind c) ∙ wc) (ap is_container (kind p) ∙ kp)
-      (subst (λ (f : ℕ → Option ℕ). Clear f c p) (sym (unhook-parent t c)) (clear-update none (above-clear (nested W) c p lp ab)))
+      (subst (λ (f : ℕ → Option ℕ). Clear f c p) (sym (unhook-parent t c)) (clear-update None (above-clear (nested W) c p lp ab)))
       (λ e el. none-under (one e (sym (ap is_element (kind c)) ∙ el)))
     where
       kind : (x : ℕ) → (unhook t c).kind x ≡ t.kind x
@@ -251,19 +252,19 @@ module _ {t : Tree} (W : WF t) where
   -- ---- the Root's element
 
   -- none is there, or only c
-  pub untaken : other_than (root_element t) none ≡ false → NoRootElement t
+  pub untaken : other_than (root_element t) None ≡ false → NoRootElement t
   untaken e = λ a m el. find_none (λ c. is_element (t.kind c)) (t.lists children 0) (go (root_element t) e) m el
     where
-      go : (o : Option ℕ) → other_than o none ≡ false → o ≡ none
-      go none e = refl
-      go (some r) e = absurd (true≢false e)
+      go : (o : Option ℕ) → other_than o None ≡ false → o ≡ None
+      go None e = refl
+      go (Some r) e = absurd (true≢false e)
 
-  pub untaken-but : (c : ℕ) → other_than (root_element t) (some c) ≡ false → (a : ℕ) → Memᴰ a (t.lists children 0) → is_element (t.kind a) ≡ true → a ≡ c
+  pub untaken-but : (c : ℕ) → other_than (root_element t) (Some c) ≡ false → (a : ℕ) → Memᴰ a (t.lists children 0) → is_element (t.kind a) ≡ true → a ≡ c
   untaken-but c e a m el = go (root_element t) refl e
     where
-      go : (o : Option ℕ) → root_element t ≡ o → other_than o (some c) ≡ false → a ≡ c
-      go none f e = absurd (find_none (λ c. is_element (t.kind c)) (t.lists children 0) f m el)
-      go (some r) f e =
+      go : (o : Option ℕ) → root_element t ≡ o → other_than o (Some c) ≡ false → a ≡ c
+      go None f e = absurd (find_none (λ c. is_element (t.kind c)) (t.lists children 0) f m el)
+      go (Some r) f e =
           let o = find-some (λ c. is_element (t.kind c)) (t.lists children 0) r f in
           W.one_element a r m o.0 el o.1 ∙ eqb-true r c (negated (eqb r c) e)
         where

@@ -1,15 +1,13 @@
 -- Demand 3 over the document: one claim about every list of calls, from a fresh document on. This file, `Tree` (the plain tree) and `Calls`
 -- (the calls) are what its reader has to read.
-use Rattle.std.specs.Prelude.{◌≡◌, Bool, true, false, cond, ℕ, zero, suc, ◌+◌, ◌<◌, eqb, length, get_or}
-use Rattle.std.proofs.Math.Option.{Option, none, some}
+use Rattle.std.specs.Prelude.{◌≡◌, Bool, true, false, cond, ℕ, zero, suc, ◌+◌, ◌<◌, eqb, length, get_or, Option, None, Some}
 use mathlib.Core.List.{List, [], ◌∷◌, map, Memᴰ}
 use Rattle.words.specs.Lists.{any}
 use Rattle.records.specs.Handles.{handle_index}
 use Rattle.names.specs.Table.{Name}
 use Rattle.model.specs.Kinds.{Which, attributes, map_kind}
 use Rattle.model.specs.Doc.{Doc, Limits, limits_ok, fresh, root_handle, no_key, or_else, map_option, resolves, live_slot, node_at, parent_at, pair_at, shown_list}
-use Rattle.model.specs.Calls.{Answer, refused, done, made, truth, node, listed, every_node, kind_is, name_is, key, keys, Answered, order_key}
-use Rattle.model.specs.Calls.{Call, append-element, append-text, append-comment, append-pi, set-text, set-attribute, remove-attribute, declare-namespace, remove, detach, reparent, insert-at, document-order, compact, root-of, kind-of, parent-of, children-of, root-element, is-element, name_of, attribute-nodes, namespace-nodes, nodes, order-key}
+use Rattle.model.specs.Calls.{Answer, refused, done, made, truth, node, listed, every_node, kind_is, name_is, key, keys, Answered, order_key, Call, append-element, append-text, append-comment, append-pi, set-text, set-attribute, remove-attribute, declare-namespace, remove, detach, reparent, insert-at, document-order, compact, root-of, kind-of, parent-of, children-of, root-element, is-element, name_of, attribute-nodes, namespace-nodes, nodes, order-key}
 use Rattle.model.specs.Calls as calls
 use Rattle.model.specs.Rules.{Rules}
 use Rattle.model.specs.Tree.{Tree, TreeAnswer, seed, key_in}
@@ -37,35 +35,35 @@ answered_handle (key k) = 0
 answered_handle (keys l) = 0
 
 abbrev pub joined_list : Call → Option ℕ
-joined_list (append-element p ns local) = none
-joined_list (append-text p s) = none
-joined_list (append-comment p s) = none
-joined_list (append-pi p s t) = none
-joined_list (set-text h s) = none
-joined_list (set-attribute e ns local value) = some e
-joined_list (remove-attribute e ns local) = none
-joined_list (declare-namespace e prefix uri) = none
-joined_list (remove h) = none
-joined_list (detach h) = none
-joined_list (reparent c p) = none
-joined_list (insert-at p i c) = none
-joined_list document-order = none
-joined_list compact = none
-joined_list root-of = none
-joined_list (kind-of h) = none
-joined_list (parent-of h) = none
-joined_list (children-of h) = none
-joined_list root-element = none
-joined_list (is-element h) = none
-joined_list (name_of n) = none
-joined_list (attribute-nodes h) = none
-joined_list (namespace-nodes h) = none
-joined_list nodes = none
-joined_list (order-key h) = none
+joined_list (append-element p ns local) = None
+joined_list (append-text p s) = None
+joined_list (append-comment p s) = None
+joined_list (append-pi p s t) = None
+joined_list (set-text h s) = None
+joined_list (set-attribute e ns local value) = Some e
+joined_list (remove-attribute e ns local) = None
+joined_list (declare-namespace e prefix uri) = None
+joined_list (remove h) = None
+joined_list (detach h) = None
+joined_list (reparent c p) = None
+joined_list (insert-at p i c) = None
+joined_list document-order = None
+joined_list compact = None
+joined_list root-of = None
+joined_list (kind-of h) = None
+joined_list (parent-of h) = None
+joined_list (children-of h) = None
+joined_list root-element = None
+joined_list (is-element h) = None
+joined_list (name_of n) = None
+joined_list (attribute-nodes h) = None
+joined_list (namespace-nodes h) = None
+joined_list nodes = None
+joined_list (order-key h) = None
 
 abbrev pub handle_told_from : Option ℕ → calls.Out → ℕ
-handle_told_from none o = answered_handle o.answer
-handle_told_from (some e) o = last_of (shown_list o.doc attributes e)
+handle_told_from None o = answered_handle o.answer
+handle_told_from (Some e) o = last_of (shown_list o.doc attributes e)
 
 abbrev pub handle_told : Call → calls.Out → ℕ
 handle_told c o = handle_told_from (joined_list c) o

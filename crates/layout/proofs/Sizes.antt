@@ -1,6 +1,6 @@
 -- What the limits and test 4 tell of sizes.
 -- Assumes nothing.
-use mathlib.Core.Path.{◌≡◌, refl, sym, ◌∙◌}
+use mathlib.Core.Path.{◌≡◌, refl, sym}
 use mathlib.Core.Bool.{Bool, true, false, ◌&&◌, false≢true}
 use mathlib.Core.Logic.{◌⊎◌, inl, inr}
 use Prim.Native.Nat.{ℕ, ◌+◌, ◌*◌, ◌≤◌, ◌<◌}
@@ -12,11 +12,9 @@ use Rattle.slots.specs.Regions.{slots_words}
 use Rattle.model.specs.Kinds.{Which, children, attributes, namespaces, same_which}
 use Rattle.model.specs.Doc.{Limits, limits_ok}
 use Rattle.layout.specs.declared.Limits as given
-use Rattle.layout.specs.declared.Arena.{Arena}
-use Rattle.layout.specs.declared.Arena.TheVariants.{Children, Attributes, Namespaces}
 use Rattle.layout.specs.declared.Counts.{Counts}
 use Rattle.layout.specs.declared.Document.{Document}
-use Rattle.layout.specs.Layout.{which_of, entries_of, limits_of, arena_words, arena_at, texts_at, texts_words, names_at, names_words, document_words, scratch_words, memory_ok, buffers_ok}
+use Rattle.layout.specs.Layout.{entries_of, limits_of, arena_words, arena_at, texts_at, texts_words, names_at, names_words, document_words, memory_ok}
 use Rattle.layout.specs.Record.{record_with}
 
 -- limits that are at most the greatest
@@ -121,22 +119,6 @@ module _ (d : Document) (mem : ℕ) where
   unfolding memory_ok
   memory-long h = leb-true _ _ (and_right (limits_ok (limits_of d.limits)) (leb (document_words (limits_of d.limits)) mem) h)
 
-  pub memory-yes : (t u : Bool) (n : ℕ) → t ≡ limits_ok (limits_of d.limits) → t ≡ true → n ≡ document_words (limits_of d.limits) → u ≡ leb n mem → u ≡ memory_ok d mem
-  unfolding memory_ok
-  memory-yes t u n e h q k = k ∙ rw (← e, h, ← q)
-
-  pub memory-no : (t : Bool) → t ≡ limits_ok (limits_of d.limits) → t ≡ false → false ≡ memory_ok d mem
-  unfolding memory_ok
-  memory-no t e h = rw (← e, h)
-
-  pub buffers-yes : (t u : Bool) (n scratch : ℕ) → t ≡ memory_ok d mem → t ≡ true → n ≡ scratch_words (limits_of d.limits) → u ≡ leb n scratch → u ≡ buffers_ok d mem scratch
-  unfolding buffers_ok
-  buffers-yes t u n scratch e h q k = k ∙ rw (← e, h, ← q)
-
-  pub buffers-no : (t : Bool) (scratch : ℕ) → t ≡ memory_ok d mem → t ≡ false → false ≡ buffers_ok d mem scratch
-  unfolding buffers_ok
-  buffers-no t scratch e h = rw (← e, h)
-
 -- test 4 does not look at the counts
 pub memory-record : (d : Document) (mem : ℕ) (counts : Counts) (current : Bool) → memory_ok d mem ≡ true → memory_ok (record_with d counts current) mem ≡ true
 unfolding memory_ok
@@ -164,17 +146,12 @@ sizes d mem h =
       narrow = λ w. omega (arith, arena-inside l w, words-fit l f);
     }
 
--- ---- where the arenas start, by the code's names
+-- all regions together fit a number of 64 bits, and so do the parts that they are added up from
+pub regions_small : (l : given.Limits) → limits_ok (limits_of l) ≡ true
+    → 15 * l.nodes + 2 * l.children + 2 * l.attributes + 2 * l.namespaces + 2 * l.texts + l.textbytes + 2 * l.names + l.namebytes < 18446744073709551616
+regions_small l h =
+    let f = limits-fit (limits_of l) h in
+    omega arith
 
-module _ (l : given.Limits) (a : Arena) where
-  pub children-first : a ≡ Children → 15 * l.nodes ≡ arena_at (limits_of l) (which_of a)
-  unfolding arena_at
-  children-first e = rw e
-
-  pub attributes-next : a ≡ Attributes → 15 * l.nodes + 2 * l.children ≡ arena_at (limits_of l) (which_of a)
-  unfolding arena_at
-  attributes-next e = rw e
-
-  pub namespaces-next : a ≡ Namespaces → 15 * l.nodes + 2 * l.children + 2 * l.attributes ≡ arena_at (limits_of l) (which_of a)
-  unfolding arena_at
-  namespaces-next e = rw e
+-- test 4 includes that of the limits
+pub ruleset limits_within = (memory-limits)

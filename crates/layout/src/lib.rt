@@ -1,16 +1,17 @@
 // The record of a document, where its regions lie in the lent buffer, and test 4.
 #![tactic(auto)]
 
-ghost use Rattle.std.specs.Prelude.{◌≡◌, true, ◌&&◌};
+ghost use Rattle.std.specs.Prelude.{◌≡◌, true, ◌+◌};
 ghost use Rattle.model.specs.Doc.{limits_ok};
-ghost use Rattle.layout.specs.Layout.{which_of, limits_of, arena_at, texts_at, names_at, document_words, scratch_words, memory_ok, buffers_ok};
+ghost use Rattle.layout.specs.Layout.{which_of, limits_of, arena_at, texts_at, texts_words, names_at, names_words, document_words, scratch_words, memory_ok, buffers_ok};
 
 use slots::region::SLOT_WORDS;
+use std::ops::Range;
 
 pub mod record;
 
 // How much a document may hold; chosen at the start.
-#[derive(Clone, Copy)]
+#[derive(Clone, Copy, Debug, PartialEq, Eq)]
 pub struct Limits {
     pub nodes: usize,
     pub children: usize,
@@ -23,7 +24,7 @@ pub struct Limits {
 }
 
 // How much it holds: slots made and free, the arenas' lengths, text slots made and released, names, and the bytes of texts and names.
-#[derive(Clone, Copy)]
+#[derive(Clone, Copy, Debug, Default, PartialEq, Eq)]
 pub struct Counts {
     pub slots: usize,
     pub free: usize,
@@ -38,7 +39,8 @@ pub struct Counts {
 }
 
 // The record that goes with the memory, passed by value; current says whether the order is.
-#[derive(Clone, Copy)]
+// Stays: the flag is a word of the record that C lends, and no other field is there for it alone.
+#[derive(Clone, Copy, Debug, PartialEq, Eq)]
 pub struct Document {
     pub limits: Limits,
     pub counts: Counts,
@@ -46,30 +48,27 @@ pub struct Document {
 }
 
 // The three arenas, as the source names them.
-#[derive(Clone, Copy)]
+#[derive(Clone, Copy, Debug, PartialEq, Eq)]
 pub enum Arena {
     Children,
     Attributes,
     Namespaces,
 }
 
-// A call in place of &&: no branch stands between the tests.
-fn both(a: bool, b: bool) -> bool
-    ensures { result ≡ (a && b) }
-{
-    if a { b } else { false }
-}
-
 // Whether the limits are at most the greatest, and there may be a node. Any numbers are answered: nothing is added up.
+#[tactic(auto, unfolding(model::specs::Doc::limits_ok))]
 pub fn limits_ok(l: Limits) -> bool
     ensures { result ≡ limits_ok (limits_of l) }
 {
-    let nodes = both(0 < l.nodes, l.nodes <= 65536);
-    let children = both(nodes, l.children <= 262144);
-    let attributes = both(children, l.attributes <= 262144);
-    let arenas = both(attributes, l.namespaces <= 262144);
-    let texts = both(both(arenas, l.texts <= 131072), l.textbytes <= 16777216);
-    both(both(texts, l.names <= 4096), l.namebytes <= 1048576)
+    (0 < l.nodes)
+        & (l.nodes <= 65536)
+        & (l.children <= 262144)
+        & (l.attributes <= 262144)
+        & (l.namespaces <= 262144)
+        & (l.texts <= 131072)
+        & (l.textbytes <= 16777216)
+        & (l.names <= 4096)
+        & (l.namebytes <= 1048576)
 }
 
 // How many entries an arena may have.
@@ -84,6 +83,7 @@ pub fn arena_limit(l: Limits, arena: Arena) -> usize
 }
 
 // Where an arena starts: after the words of each slot, one behind the other.
+#[tactic(auto, unfolding(crate::specs::Layout::arena_at))]
 pub fn arena_at(l: Limits, arena: Arena) -> usize
     requires { limits_ok (limits_of l) ≡ true }
     ensures { result ≡ arena_at (limits_of l) (which_of arena) }
@@ -97,6 +97,7 @@ pub fn arena_at(l: Limits, arena: Arena) -> usize
 }
 
 // Where the texts start.
+#[tactic(auto, unfolding(crate::specs::Layout::texts_at))]
 pub fn texts_at(l: Limits) -> usize
     requires { limits_ok (limits_of l) ≡ true }
     ensures { result ≡ texts_at (limits_of l) }
@@ -105,6 +106,7 @@ pub fn texts_at(l: Limits) -> usize
 }
 
 // Where the names start.
+#[tactic(auto, unfolding(crate::specs::Layout::texts_at, crate::specs::Layout::names_at, crate::specs::Layout::document_words))]
 pub fn names_at(l: Limits) -> usize
     requires { limits_ok (limits_of l) ≡ true }
     ensures { result ≡ names_at (limits_of l) }
@@ -112,7 +114,28 @@ pub fn names_at(l: Limits) -> usize
     texts_at(l) + 2 * l.texts + l.textbytes
 }
 
+// Where the words of the texts lie.
+pub fn texts_range(l: Limits) -> Range<usize>
+    requires { limits_ok (limits_of l) ≡ true }
+    ensures start { result.start ≡ texts_at (limits_of l) }
+    ensures end { result.end ≡ result.start + texts_words (limits_of l) }
+{
+    let start = texts_at(l);
+    start..start + (2 * l.texts + l.textbytes)
+}
+
+// Where the words of the names lie.
+pub fn names_range(l: Limits) -> Range<usize>
+    requires { limits_ok (limits_of l) ≡ true }
+    ensures start { result.start ≡ names_at (limits_of l) }
+    ensures end { result.end ≡ result.start + names_words (limits_of l) }
+{
+    let start = names_at(l);
+    start..start + (2 * l.names + l.namebytes)
+}
+
 // How many words document memory takes.
+#[tactic(auto, unfolding(crate::specs::Layout::texts_at, crate::specs::Layout::names_at, crate::specs::Layout::document_words))]
 pub fn document_words(l: Limits) -> usize
     requires { limits_ok (limits_of l) ≡ true }
     ensures { result ≡ document_words (limits_of l) }
@@ -121,6 +144,7 @@ pub fn document_words(l: Limits) -> usize
 }
 
 // How many words scratch takes.
+#[tactic(auto, unfolding(crate::specs::Layout::scratch_words))]
 pub fn scratch_words(l: Limits) -> usize
     requires { limits_ok (limits_of l) ≡ true }
     ensures { result ≡ scratch_words (limits_of l) }
@@ -129,24 +153,17 @@ pub fn scratch_words(l: Limits) -> usize
 }
 
 // Test 4 of a reading call, for every record and a buffer of mem words.
+#[tactic(auto, unfolding(crate::specs::Layout::memory_ok))]
 pub fn memory_ok(d: Document, mem: usize) -> bool
     ensures { result ≡ memory_ok d mem }
 {
-    let l = d.limits;
-    if limits_ok(l) {
-        document_words(l) <= mem
-    } else {
-        false
-    }
+    limits_ok(d.limits) && document_words(d.limits) <= mem
 }
 
 // Test 4 of an editing call, which is lent scratch words besides.
+#[tactic(auto, using(crate::proofs::Sizes::limits_within), unfolding(crate::specs::Layout::buffers_ok))]
 pub fn buffers_ok(d: Document, mem: usize, scratch: usize) -> bool
     ensures { result ≡ buffers_ok d mem scratch }
 {
-    if memory_ok(d, mem) {
-        scratch_words(d.limits) <= scratch
-    } else {
-        false
-    }
+    memory_ok(d, mem) && scratch_words(d.limits) <= scratch
 }

@@ -1,73 +1,58 @@
-// The record of a document with some of its fields replaced, and of a document that holds next to nothing. There is no record update: each function lists the fields.
+// The record of a document with some of its fields replaced, and of a document that holds next to nothing.
 ghost use Rattle.std.specs.Prelude.{◌≡◌};
 ghost use Rattle.layout.specs.Layout.{which_of};
-ghost use Rattle.layout.specs.Record.{record_with, outdated, with_slots, with_used, with_lengths, with_texts, with_names, renewed, slots_alone, fresh_record};
+ghost use Rattle.layout.specs.Record.{outdated, with_slots, with_used, with_lengths, with_texts, with_names, renewed, slots_alone, fresh_record};
 
 use crate::{Arena, Counts, Document, Limits};
 use names::NameCounts;
 use texts::TextCounts;
-
-// Other counts. Current says whether the order is.
-fn record_with(d: Document, counts: Counts, current: bool) -> Document
-    ensures { result ≡ record_with d counts current }
-{
-    let limits = d.limits;
-    Document {
-        limits,
-        counts,
-        current,
-    }
-}
 
 // ---- the order is not current any more
 
 pub fn outdated(d: Document) -> Document
     ensures { result ≡ outdated d }
 {
-    record_with(d, d.counts, false)
+    Document {
+        current: false,
+        ..d
+    }
 }
 
 // Other counts of the slots.
 pub fn with_slots(d: Document, made: usize, free: usize) -> Document
     ensures { result ≡ with_slots d made free }
 {
-    let c = d.counts;
     let counts = Counts {
         slots: made,
         free,
-        children: c.children,
-        attributes: c.attributes,
-        namespaces: c.namespaces,
-        texts: c.texts,
-        freetexts: c.freetexts,
-        textbytes: c.textbytes,
-        names: c.names,
-        namebytes: c.namebytes,
+        ..d.counts
     };
-    record_with(d, counts, false)
+    Document {
+        counts,
+        current: false,
+        ..d
+    }
 }
 
 // Other lengths of the arenas.
 pub fn with_lengths(d: Document, children: usize, attributes: usize, namespaces: usize) -> Document
     ensures { result ≡ with_lengths d children attributes namespaces }
 {
-    let c = d.counts;
     let counts = Counts {
-        slots: c.slots,
-        free: c.free,
         children,
         attributes,
         namespaces,
-        texts: c.texts,
-        freetexts: c.freetexts,
-        textbytes: c.textbytes,
-        names: c.names,
-        namebytes: c.namebytes,
+        ..d.counts
     };
-    record_with(d, counts, false)
+    Document {
+        counts,
+        current: false,
+        ..d
+    }
 }
 
 // Another length of one arena.
+#[tactic(auto, unfolding(crate::specs::Record::with_used))]
 pub fn with_used(d: Document, arena: Arena, used: usize) -> Document
     ensures { result ≡ with_used d (which_of arena) used }
 {
@@ -85,40 +70,25 @@ pub fn with_used(d: Document, arena: Arena, used: usize) -> Document
 pub fn with_texts(d: Document, t: TextCounts) -> Document
     ensures { result ≡ with_texts d t }
 {
-    let c = d.counts;
     let counts = Counts {
-        slots: c.slots,
-        free: c.free,
-        children: c.children,
-        attributes: c.attributes,
-        namespaces: c.namespaces,
         texts: t.slots,
         freetexts: t.free,
         textbytes: t.bytes,
-        names: c.names,
-        namebytes: c.namebytes,
+        ..d.counts
     };
-    record_with(d, counts, d.current)
+    Document { counts, ..d }
 }
 
 // Other counts of the names.
 pub fn with_names(d: Document, t: NameCounts) -> Document
     ensures { result ≡ with_names d t }
 {
-    let c = d.counts;
     let counts = Counts {
-        slots: c.slots,
-        free: c.free,
-        children: c.children,
-        attributes: c.attributes,
-        namespaces: c.namespaces,
-        texts: c.texts,
-        freetexts: c.freetexts,
-        textbytes: c.textbytes,
         names: t.names,
         namebytes: t.bytes,
+        ..d.counts
     };
-    record_with(d, counts, d.current)
+    Document { counts, ..d }
 }
 
 // ---- the order is current
@@ -126,7 +96,7 @@ pub fn with_names(d: Document, t: NameCounts) -> Document
 pub fn renewed(d: Document) -> Document
     ensures { result ≡ renewed d }
 {
-    record_with(d, d.counts, true)
+    Document { current: true, ..d }
 }
 
 // ---- next to nothing
@@ -137,15 +107,7 @@ pub fn slots_alone(limits: Limits, made: usize, current: bool) -> Document
 {
     let counts = Counts {
         slots: made,
-        free: 0,
-        children: 0,
-        attributes: 0,
-        namespaces: 0,
-        texts: 0,
-        freetexts: 0,
-        textbytes: 0,
-        names: 0,
-        namebytes: 0,
+        ..Counts::default()
     };
     Document {
         limits,

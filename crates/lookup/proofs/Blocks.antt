@@ -1,5 +1,6 @@
 -- The block of a live node, and a test of it for every handle.
 -- Assumes nothing.
+use Rattle.std.specs.Prelude.{None, Some}
 use mathlib.Core.Path.{◌≡◌, sym, ap, ◌∙◌}
 use mathlib.Core.Bool.{Bool, true, false, ◌&&◌, cond}
 use mathlib.Core.List.{List}
@@ -13,7 +14,6 @@ use Rattle.records.specs.Handles.{word_of, handle_index}
 use Rattle.records.specs.declared.NodeId.{NodeId}
 use Rattle.records.specs.declared.Range.{Range}
 use Rattle.records.specs.declared.Node.{Node}
-use Rattle.records.specs.declared.Loaded.TheVariants.{Found, NoNode}
 use Rattle.records.proofs.Handles.{handle_index-word_of}
 use Rattle.model.specs.Kinds.{Which}
 use Rattle.model.specs.Doc.{Doc, resolves, live_slot, range_in}
@@ -30,7 +30,7 @@ module _ (d : Document) (mem : List ℕ) (h : NodeId) (hi : h.index < 4294967296
   abbrev D : Doc
   D = decode d mem
 
-  module _ (m : Node) (e : resolved_in d mem h ≡ Found m) (r : Range) (q : block_of r ≡ range_of w m) where
+  module _ (m : Node) (e : resolved_in d mem h ≡ Some m) (r : Range) (q : block_of r ≡ range_of w m) where
     pub own_range : range_in (decode d mem) w h.index ≡ block_of r
     own_range =
         let f = resolved-found (pool_in d mem) (names_in d mem) (lengths_add d mem) d mem h hi hg m e in
@@ -59,5 +59,5 @@ module _ (d : Document) (mem : List ℕ) (h : NodeId) (hi : h.index < 4294967296
         ∙ ap (λ (i : ℕ). f (range_in D w i)) (handle_index-word_of h hi)
         ∙ ap f own_range)
 
-  pub block-stale : (f : Block → Bool) → resolved_in d mem h ≡ NoNode → false ≡ (resolves (decode d mem) (word_of h) && f (range_in (decode d mem) w (handle_index (word_of h))))
+  pub block-stale : (f : Block → Bool) → resolved_in d mem h ≡ None → false ≡ (resolves (decode d mem) (word_of h) && f (range_in (decode d mem) w (handle_index (word_of h))))
   block-stale f e = sym (ap (λ (b : Bool). b && f (range_in D w (handle_index (word_of h)))) (resolves-stale d mem h hi hg e))

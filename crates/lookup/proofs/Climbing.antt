@@ -1,8 +1,9 @@
 -- The way up, over plain values: what a step of the climb tells of the rest.
 -- Assumes nothing.
+use Rattle.records.specs.declared.Node.{Node}
+use Rattle.std.specs.Prelude.{Option, None, Some}
 use mathlib.Core.Path.{◌≡◌, sym, ap, ◌∙◌}
 use mathlib.Core.Bool.{Bool, true, false}
-use mathlib.Core.Option.{Option, none, some}
 use mathlib.Core.List.{List}
 use Prim.Native.Nat.{ℕ, suc, ◌+◌, ◌-◌, ◌≤◌, ◌<◌}
 use native.Mathlib.Omega.{arith}
@@ -13,9 +14,6 @@ use Rattle.words.specs.Lists.{tabulate}
 use Rattle.words.proofs.Lists.{length-tabulate}
 use Rattle.records.specs.Handles.{handle_index, word_of}
 use Rattle.records.specs.declared.NodeId.{NodeId}
-use Rattle.records.specs.declared.Parent.{Parent}
-use Rattle.records.specs.declared.Parent.TheVariants.{None, Of}
-use Rattle.records.specs.declared.Loaded.{Loaded}
 use Rattle.model.specs.Doc.{Doc, parent_at, any_option, on_path}
 use Rattle.layout.specs.declared.Document.{Document}
 use Rattle.memory.specs.Decode.{handle_of, parent_loaded, loaded_at, slots_part, slots_made, pool_in, names_in, lengths_add, decode}
@@ -24,14 +22,14 @@ use Rattle.memory.proofs.Columns.{length-gens, parent-in}
 -- ---- a parent
 
 module _ (d : Document) (mem : List ℕ) (w made : ℕ) (em : made ≡ slots_made d) where
-  pub parent-read : handle_index w < made → (l : Loaded) (r : Parent) → l ≡ loaded_at d.limits.nodes (slots_part d mem) (handle_index w) → handle_of r ≡ parent_loaded l
+  pub parent-read : handle_index w < made → (l : Option Node) (r : Option NodeId) → l ≡ loaded_at d.limits.nodes (slots_part d mem) (handle_index w) → handle_of r ≡ parent_loaded l
       → handle_of r ≡ parent_at (decode d mem) w
   parent-read h l r e q = q ∙ ap parent_loaded e ∙ sym (parent-in (pool_in d mem) (names_in d mem) (lengths_add d mem) d mem (handle_index w) (omega (arith, em)))
 
-  pub parent-past : made ≤ handle_index w → none ≡ parent_at (decode d mem) w
+  pub parent-past : made ≤ handle_index w → None ≡ parent_at (decode d mem) w
   parent-past h =
       let parents : ℕ → Option ℕ = λ t. parent_loaded (loaded_at d.limits.nodes (slots_part d mem) t) in
-      sym (get_or-eq_default (tabulate parents (slots_made d)) none {n = handle_index w} (omega (arith, em, length-tabulate parents (slots_made d))))
+      sym (get_or-eq_default (tabulate parents (slots_made d)) None {n = handle_index w} (omega (arith, em, length-tabulate parents (slots_made d))))
 
 -- ---- the climb from p, which is at q after k of at most n steps: what is left of it
 
@@ -53,10 +51,10 @@ module _ (D : Doc) (n c p k q : ℕ) (at : Climbed D n c p k q) where
     on : (q ≡ c → ⊥) → on_path n D c p ≡ any_option (λ r. on_path (n - (k + 1)) D c r) (parent_at D q)
     on e = at.rest ∙ rw (left, ne_eqb q c e)
 
-    pub climbed-top : (q ≡ c → ⊥) → parent_at D q ≡ none → on_path n D c p ≡ false
+    pub climbed-top : (q ≡ c → ⊥) → parent_at D q ≡ None → on_path n D c p ≡ false
     climbed-top e s = on e ∙ ap (any_option (λ r. on_path (n - (k + 1)) D c r)) s
 
-    pub climbed-up : (q ≡ c → ⊥) → (r : ℕ) → parent_at D q ≡ some r → Climbed D n c p (k + 1) r
+    pub climbed-up : (q ≡ c → ⊥) → (r : ℕ) → parent_at D q ≡ Some r → Climbed D n c p (k + 1) r
     climbed-up e r s = record { within = omega arith; rest = on e ∙ ap (any_option (λ r. on_path (n - (k + 1)) D c r)) s }
 
   pub climbed-end : n ≤ k → on_path n D c p ≡ false
@@ -74,8 +72,8 @@ module _ (d : Document) (mem : List ℕ) (steps top start c p : ℕ) (es : steps
       ∙ ap (on_path (length (decode d mem).gens) (decode d mem) c) ep
 
 -- the parent that was read, and its word
-pub parent-none : (D : Doc) (w : ℕ) (r : Parent) → handle_of r ≡ parent_at D w → r ≡ None → parent_at D w ≡ none
+pub parent-none : (D : Doc) (w : ℕ) (r : Option NodeId) → handle_of r ≡ parent_at D w → r ≡ None → parent_at D w ≡ None
 parent-none D w r e q = sym e ∙ ap handle_of q
 
-pub parent-some : (D : Doc) (w : ℕ) (r : Parent) (h : NodeId) (k : ℕ) → handle_of r ≡ parent_at D w → r ≡ Of h → k ≡ word_of h → parent_at D w ≡ some k
-parent-some D w r h k e q s = sym e ∙ ap handle_of q ∙ ap (λ (x : ℕ). some x) (sym s)
+pub parent-some : (D : Doc) (w : ℕ) (r : Option NodeId) (h : NodeId) (k : ℕ) → handle_of r ≡ parent_at D w → r ≡ Some h → k ≡ word_of h → parent_at D w ≡ Some k
+parent-some D w r h k e q s = sym e ∙ ap handle_of q ∙ ap (λ (x : ℕ). Some x) (sym s)

@@ -7,3 +7,4 @@ pub mod Entries
 pub mod Counts
 pub mod Named
 pub mod Shown
+pub mod Searched

@@ -1,13 +1,13 @@
 -- The Root's children and the element among them, over plain values.
 -- Assumes nothing.
+use Rattle.std.specs.Prelude.{None, Some}
 use mathlib.Core.Path.{◌≡◌, refl, sym, ap, ◌∙◌}
-use mathlib.Core.Bool.{Bool, true, false, not, ◌&&◌, cond}
-use mathlib.Core.Option.{Option, none, some}
+use mathlib.Core.Bool.{Bool, true, false, ◌&&◌, cond}
 use mathlib.Core.List.{List}
 use Prim.Native.Nat.{ℕ, ◌+◌, ◌≤◌}
 use native.Mathlib.Omega.{arith}
 use lib.ListN.{drop}
-use lib.Dec.{eqb, leb}
+use lib.Dec.{leb}
 use borrow.Author.Tests.{le-leb}
 use Rattle.words.specs.Lists.{find}
 use Rattle.blocks.specs.Arena.{Block, block, list_of}
@@ -16,16 +16,11 @@ use Rattle.records.specs.Handles.{word_of, id_of}
 use Rattle.records.specs.declared.NodeId.{NodeId}
 use Rattle.records.specs.declared.Range.{Range}
 use Rattle.records.specs.declared.Node.{Node}
-use Rattle.records.specs.declared.Loaded.TheVariants.{Found, NoNode}
 use Rattle.records.proofs.Handles.{word_of-id_of}
 use Rattle.model.specs.Kinds.{children, is_element}
 use Rattle.model.specs.Doc.{Doc, root_handle, resolves, kind_at, range_in, in_arena, pair_at, bytes_at, node_at, view_at, any_option, shown_block, shows_element, root_element}
-use Rattle.model.specs.Calls.{other_than, root_taken}
 use Rattle.layout.specs.declared.Document.{Document}
 use Rattle.memory.specs.Decode.{block_of, arena_part, arena_in, resolved_in, decode}
-use Rattle.lookup.specs.declared.search.Listed.{Listed}
-use Rattle.lookup.specs.declared.search.Listed.TheVariants.{At, Nowhere}
-use Rattle.lookup.specs.Listed.{listed_word}
 use Rattle.memory.specs.Undamaged.{Undamaged}
 use Rattle.lookup.proofs.Viewed.{element-kind, resolves-found, resolves-stale}
 use Rattle.lookup.proofs.Blocks.{own_range, block_held}
@@ -39,7 +34,7 @@ module _ (d : Document) (mem : List ℕ) (u : Undamaged d mem) where
   abbrev D : Doc
   D = decode d mem
 
-  pub root-block : (m : Node) → resolved_in d mem (record { index = 0; generation = 0 }) ≡ Found m
+  pub root-block : (m : Node) → resolved_in d mem (record { index = 0; generation = 0 }) ≡ Some m
       → (block_of m.children ≡ shown_block (decode d mem) children root_handle) × (m.children.start + m.children.len ≤ d.limits.children)
   root-block m e =
       let r = m.children in
@@ -54,7 +49,7 @@ module _ (d : Document) (mem : List ℕ) (u : Undamaged d mem) where
         omega (arith, h.inside, h.fits),
       )
 
-  pub no-root-block : resolved_in d mem (record { index = 0; generation = 0 }) ≡ NoNode → block 0 0 ≡ shown_block (decode d mem) children root_handle
+  pub no-root-block : resolved_in d mem (record { index = 0; generation = 0 }) ≡ None → block 0 0 ≡ shown_block (decode d mem) children root_handle
   no-root-block e = sym (ap (λ (t : Bool). cond (t && in_arena D children 0) (range_in D children 0) (block 0 0)) (resolves-stale d mem top (omega arith) (omega arith) e))
 
 -- ---- the element
@@ -62,7 +57,7 @@ module _ (d : Document) (mem : List ℕ) (u : Undamaged d mem) where
 shown-element : (D : Doc) (h : ℕ) → any_option is_element (view_at D h) ≡ shows_element D h
 shown-element D h = go (resolves D h)
   where
-    go : (t : Bool) → any_option is_element (cond t (some (node_at D h)) none) ≡ (t && is_element (kind_at D h))
+    go : (t : Bool) → any_option is_element (cond t (Some (node_at D h)) None) ≡ (t && is_element (kind_at D h))
     go true = element-kind (pair_at D) (bytes_at D) (kind_at D h)
     go false = refl
 
@@ -70,16 +65,6 @@ pub shows-at : (D : Doc) (w : ℕ) (id : NodeId) (r : Bool) → id ≡ id_of w �
 shows-at D w id r e q =
     q ∙ shown-element D (word_of id) ∙ ap (shows_element D) (ap word_of e ∙ word_of-id_of w)
 
-pub root-listed : (d : Document) (mem : List ℕ) (b : Range) (r : Listed) → block_of b ≡ shown_block (decode d mem) children root_handle
-    → listed_word r ≡ find (shows_element (decode d mem)) (list_of (arena_in d children mem) (block_of b)) → listed_word r ≡ root_element (decode d mem)
-root-listed d mem b r e q = q ∙ ap (λ (x : Block). find (shows_element (decode d mem)) (list_of (arena_in d children mem) x)) e
-
-module _ (D : Doc) (r : Listed) (e : listed_word r ≡ root_element D) where
-  pub taken-some : (w : ℕ) → r ≡ At w → true ≡ root_taken D none
-  taken-some w q = sym (ap (λ (o : Option ℕ). other_than o none) (sym e ∙ ap listed_word q))
-
-  pub taken_none : (x : Option ℕ) → r ≡ Nowhere → false ≡ root_taken D x
-  taken_none x q = sym (ap (λ (o : Option ℕ). other_than o x) (sym e ∙ ap listed_word q))
-
-  pub taken-other : (w k c : ℕ) (t : Bool) → r ≡ At w → k ≡ c → t ≡ not (eqb w k) → t ≡ root_taken D (some c)
-  taken-other w k c t q f s = s ∙ ap (λ (x : ℕ). not (eqb w x)) f ∙ sym (ap (λ (o : Option ℕ). other_than o (some c)) (sym e ∙ ap listed_word q))
+pub root-listed : (d : Document) (mem : List ℕ) (b : Range) → block_of b ≡ shown_block (decode d mem) children root_handle
+    → find (shows_element (decode d mem)) (list_of (arena_in d children mem) (block_of b)) ≡ root_element (decode d mem)
+root-listed d mem b e = ap (λ (x : Block). find (shows_element (decode d mem)) (list_of (arena_in d children mem) x)) e

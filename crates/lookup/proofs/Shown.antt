@@ -1,14 +1,16 @@
 -- Stored texts and names are what the words of the pool and of the table show.
 -- Assumes nothing.
+use Rattle.std.specs.Prelude.{Option}
 use mathlib.Core.Path.{◌≡◌, sym, ap, ◌∙◌}
 use mathlib.Core.Bool.{true}
-use mathlib.Core.Option.{Option}
 use mathlib.Core.List.{List, []}
 use Prim.Native.Nat.{ℕ, ◌≤◌, ◌<◌, min}
 use native.Mathlib.Omega.{arith}
 use native.Mathlib.Decide.{dec_lt}
 use Rattle.names.specs.Table.{Name, name}
-use Rattle.names.specs.Words.{name_shown, name_there}
+use Rattle.names.specs.Words.{name_shown, name_there, part_number, part_of}
+use Rattle.names.specs.declared.NamePart.{NamePart}
+use Rattle.names.specs.declared.NamePart.TheVariants.{Namespace, Local}
 use Rattle.names.proofs.Words.{there-number, held-there, part-number}
 use Rattle.model.specs.Doc.{bytes_at, pair_at, or_else}
 use Rattle.layout.specs.declared.Document.{Document}
@@ -42,8 +44,6 @@ module _ (d : Document) (mem : List ℕ) where
             rw (there-number (name_limits d) (name_counts d) words n c, part-number (name_limits d) (name_counts d) words n 0 c, part-number (name_limits d) (name_counts d) words n 1 c)
 
     module _ (n : ℕ) (r : List ℕ) where
-      pub namespace-told : r ≡ name_part d mem n 0 → r ≡ (pair_at (decode d mem) n).namespace
-      namespace-told q = q ∙ sym (ap (λ (x : Name). x.namespace) (pair-shown n))
-
-      pub local-told : r ≡ name_part d mem n 1 → r ≡ (pair_at (decode d mem) n).local
-      local-told q = q ∙ sym (ap (λ (x : Name). x.local) (pair-shown n))
+      pub name-told : (p : NamePart) → r ≡ name_part d mem n (part_number p) → r ≡ part_of p (pair_at (decode d mem) n)
+      name-told Namespace q = q ∙ sym (ap (λ (x : Name). x.namespace) (pair-shown n))
+      name-told Local q = q ∙ sym (ap (λ (x : Name). x.local) (pair-shown n))

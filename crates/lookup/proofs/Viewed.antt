@@ -1,14 +1,13 @@
 -- What a handle shows to the checks, by the node that it resolves to.
 -- Assumes nothing.
+use Rattle.std.specs.Prelude.{Option, None, Some}
 use mathlib.Core.Path.{◌≡◌, refl, sym, ap, ◌∙◌}
 use mathlib.Core.Bool.{Bool, true, false, not, cond}
-use mathlib.Core.Option.{Option, none, some}
 use mathlib.Core.List.{List}
 use Prim.Native.Nat.{ℕ, ◌<◌}
 use Rattle.records.specs.Handles.{word_of}
 use Rattle.records.specs.declared.NodeId.{NodeId}
 use Rattle.records.specs.declared.Node.{Node}
-use Rattle.records.specs.declared.Loaded.TheVariants.{Found, NoNode}
 use Rattle.records.proofs.Handles.{handle_index-word_of}
 use Rattle.names.specs.Table.{Name}
 use Rattle.model.specs.Kinds.{Kind, root, element, attribute, text, comment, namespace, instruction, map_kind, is_container, is_element, is_root, child_kind, text_of}
@@ -22,7 +21,7 @@ use Rattle.memory.proofs.Columns.{resolved-found, resolved-none, kind-found}
 -- ---- the checks look at the kind alone
 
 module _ (pair : ℕ → Name) (bytes : Option ℕ → List ℕ) where
-  pub container-kind : (k : Kind ℕ (Option ℕ)) → container (some (map_kind pair bytes k)) ≡ refuse_if (not (is_container k)) 8
+  pub container-kind : (k : Kind ℕ (Option ℕ)) → container (Some (map_kind pair bytes k)) ≡ refuse_if (not (is_container k)) 8
   container-kind root = refl
   container-kind (element n) = refl
   container-kind (attribute n v) = refl
@@ -58,7 +57,7 @@ module _ (pair : ℕ → Name) (bytes : Option ℕ → List ℕ) where
   child-kind (namespace p u) = refl
   child-kind (instruction t d) = refl
 
-  pub text-kind : (k : Kind ℕ (Option ℕ)) → a_text (some (map_kind pair bytes k)) ≡ refuse_if (is_none (text_of k)) 10
+  pub text-kind : (k : Kind ℕ (Option ℕ)) → a_text (Some (map_kind pair bytes k)) ≡ refuse_if (is_none (text_of k)) 10
   text-kind root = refl
   text-kind (element n) = refl
   text-kind (attribute n v) = refl
@@ -67,10 +66,10 @@ module _ (pair : ℕ → Name) (bytes : Option ℕ → List ℕ) where
   text-kind (namespace p u) = refl
   text-kind (instruction t d) = refl
 
-  pub an-element-kind : (k : Kind ℕ (Option ℕ)) → an_element (some (map_kind pair bytes k)) ≡ refuse_if (not (is_element k)) 7
+  pub an-element-kind : (k : Kind ℕ (Option ℕ)) → an_element (Some (map_kind pair bytes k)) ≡ refuse_if (not (is_element k)) 7
   an-element-kind k = ap (λ (t : Bool). refuse_if (not t) 7) (element-kind k)
 
-  pub remove-kind : (k : Kind ℕ (Option ℕ)) → check_remove (some (map_kind pair bytes k)) ≡ refuse_if (is_root k) 11
+  pub remove-kind : (k : Kind ℕ (Option ℕ)) → check_remove (Some (map_kind pair bytes k)) ≡ refuse_if (is_root k) 11
   remove-kind k = ap (λ (t : Bool). refuse_if t 11) (root-kind k)
 
 -- ---- a handle
@@ -79,7 +78,7 @@ module _ (d : Document) (mem : List ℕ) (h : NodeId) (hi : h.index < 4294967296
   abbrev D : Doc
   D = decode d mem
 
-  module _ (m : Node) (e : resolved_in d mem h ≡ Found m) where
+  module _ (m : Node) (e : resolved_in d mem h ≡ Some m) where
     pub resolves-found : resolves (decode d mem) (word_of h) ≡ true
     resolves-found = (resolved-found (pool_in d mem) (names_in d mem) (lengths_add d mem) d mem h hi hg m e).resolves-handle
 
@@ -89,23 +88,23 @@ module _ (d : Document) (mem : List ℕ) (h : NodeId) (hi : h.index < 4294967296
         ap (kind_in D) (handle_index-word_of h hi)
         ∙ kind-found (pool_in d mem) (names_in d mem) (lengths_add d mem) d mem h.index r.slot-made m r.loaded
 
-    pub view-found : view_at (decode d mem) (word_of h) ≡ some (map_kind (pair_at (decode d mem)) (bytes_at (decode d mem)) (kind_of m.«data»))
+    pub view-found : view_at (decode d mem) (word_of h) ≡ Some (map_kind (pair_at (decode d mem)) (bytes_at (decode d mem)) (kind_of m.«data»))
     view-found =
-        ap (λ (t : Bool). cond t (some (node_at D (word_of h))) none) resolves-found
-        ∙ ap (λ (k : Kind ℕ (Option ℕ)). some (map_kind (pair_at D) (bytes_at D) k)) kind_at-found
+        ap (λ (t : Bool). cond t (Some (node_at D (word_of h))) None) resolves-found
+        ∙ ap (λ (k : Kind ℕ (Option ℕ)). Some (map_kind (pair_at D) (bytes_at D) k)) kind_at-found
 
-  module _ (e : resolved_in d mem h ≡ NoNode) where
+  module _ (e : resolved_in d mem h ≡ None) where
     pub resolves-stale : resolves (decode d mem) (word_of h) ≡ false
     resolves-stale = resolved-none (pool_in d mem) (names_in d mem) (lengths_add d mem) d mem h hi hg e
 
-    pub view-stale : view_at (decode d mem) (word_of h) ≡ none
-    view-stale = ap (λ (t : Bool). cond t (some (node_at D (word_of h))) none) resolves-stale
+    pub view-stale : view_at (decode d mem) (word_of h) ≡ None
+    view-stale = ap (λ (t : Bool). cond t (Some (node_at D (word_of h))) None) resolves-stale
 
   -- a check f of the view, whose value at a node is g of the kind
   module _ {A : Type 0} (f : View → A) where
-    pub check-found : (g : Kind ℕ (Option ℕ) → A) → ((pair : ℕ → Name) (bytes : Option ℕ → List ℕ) (k : Kind ℕ (Option ℕ)) → f (some (map_kind pair bytes k)) ≡ g k)
-        → (m : Node) → resolved_in d mem h ≡ Found m → (r : A) → r ≡ g (kind_of m.«data») → r ≡ f (view_at (decode d mem) (word_of h))
+    pub check-found : (g : Kind ℕ (Option ℕ) → A) → ((pair : ℕ → Name) (bytes : Option ℕ → List ℕ) (k : Kind ℕ (Option ℕ)) → f (Some (map_kind pair bytes k)) ≡ g k)
+        → (m : Node) → resolved_in d mem h ≡ Some m → (r : A) → r ≡ g (kind_of m.«data») → r ≡ f (view_at (decode d mem) (word_of h))
     check-found g q m e r s = s ∙ sym (ap f (view-found m e) ∙ q (pair_at D) (bytes_at D) (kind_of m.«data»))
 
-    pub check-stale : resolved_in d mem h ≡ NoNode → f none ≡ f (view_at (decode d mem) (word_of h))
+    pub check-stale : resolved_in d mem h ≡ None → f None ≡ f (view_at (decode d mem) (word_of h))
     check-stale e = sym (ap f (view-stale e))

@@ -4,6 +4,5 @@
 pub mod finding;
 pub mod paths;
 pub mod root;
-pub mod search;
 pub mod stored;
 pub mod views;

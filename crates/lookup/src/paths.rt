@@ -7,20 +7,20 @@ ghost use Rattle.memory.specs.Decode.{handle_of, parent_loaded, decode};
 
 use layout::Document;
 use memory::read::{load, made};
-use records::{Loaded, NodeId, Parent};
+use records::{Node, NodeId};
 use words::NodeSlot;
 
-fn loaded_parent(node: Loaded) -> Parent
+fn loaded_parent(node: Option<Node>) -> Option<NodeId>
     ensures { handle_of result ≡ parent_loaded node }
 {
     match node {
-        Loaded::Found(found) => found.parent,
-        Loaded::NoNode => Parent::None,
+        Some(found) => found.parent,
+        None => None,
     }
 }
 
 // The parent of the node in a handle's slot.
-pub fn parent_of(d: Document, mem: &[u64], word: u64) -> Parent
+pub fn parent_of(d: Document, mem: &[u64], word: u64) -> Option<NodeId>
     requires { memory_ok d (length mem.now) ≡ true }
     ensures { handle_of result ≡ parent_at (decode d mem.now) word }
 {
@@ -28,7 +28,7 @@ pub fn parent_of(d: Document, mem: &[u64], word: u64) -> Parent
     if index < made(d) as u64 {
         return loaded_parent(load(d, mem, NodeSlot(index as u32)));
     }
-    Parent::None
+    None
 }
 
 // Whether a node is the given one or above it. There are no more steps up than slots.
@@ -36,23 +36,16 @@ pub fn on_path(d: Document, mem: &[u64], node: NodeId, below: NodeId) -> bool
     requires { memory_ok d (length mem.now) ≡ true }
     ensures { result ≡ on_path (length (decode d mem.now).gens) (decode d mem.now) (word_of node) (word_of below) }
 {
-    let steps = made(d);
     let top = records::handle::word_of(node);
     let mut at = records::handle::word_of(below);
-    let mut k = 0;
-    while k < steps {
+    for _ in 0..made(d) {
         if at == top {
             return true;
         }
         match parent_of(d, mem, at) {
-            Parent::None => {
-                return false;
-            }
-            Parent::Of(id) => {
-                at = records::handle::word_of(id);
-            }
+            None => return false,
+            Some(id) => at = records::handle::word_of(id),
         }
-        k += 1;
     }
     false
 }

@@ -12,78 +12,48 @@ ghost use Rattle.verdicts.specs.Verdicts.{verdict_number};
 use layout::Document;
 use memory::read::resolve;
 use model::Refusal;
-use records::{Loaded, NodeData, NodeId};
-use verdicts::verdict::{Verdict, refuse_if};
+use records::{NodeData, NodeId};
+use verdicts::verdict::refuse_if;
 
 pub fn root_kind(data: NodeData) -> bool
     ensures { result ≡ is_root (kind_of «data») }
 {
-    match data {
-        NodeData::Root => true,
-        NodeData::Element { .. } => false,
-        NodeData::Attr { .. } => false,
-        NodeData::Text(_) => false,
-        NodeData::Comment(_) => false,
-        NodeData::Namespace { .. } => false,
-        NodeData::ProcessingInstruction { .. } => false,
-    }
+    matches!(data, NodeData::Root)
 }
 
 pub fn element_kind(data: NodeData) -> bool
     ensures { result ≡ is_element (kind_of «data») }
 {
-    match data {
-        NodeData::Root => false,
-        NodeData::Element { .. } => true,
-        NodeData::Attr { .. } => false,
-        NodeData::Text(_) => false,
-        NodeData::Comment(_) => false,
-        NodeData::Namespace { .. } => false,
-        NodeData::ProcessingInstruction { .. } => false,
-    }
+    matches!(data, NodeData::Element { .. })
 }
 
 // The Root and elements hold children.
-fn container_kind(data: NodeData) -> Verdict
+fn container_kind(data: NodeData) -> Result<(), Refusal>
     ensures { verdict_number result ≡ refuse_if (not (is_container (kind_of «data»))) 8 }
 {
     match data {
-        NodeData::Root => Verdict::Accepted,
-        NodeData::Element { .. } => Verdict::Accepted,
-        NodeData::Attr { .. } => Verdict::Refused(Refusal::NotAContainer),
-        NodeData::Text(_) => Verdict::Refused(Refusal::NotAContainer),
-        NodeData::Comment(_) => Verdict::Refused(Refusal::NotAContainer),
-        NodeData::Namespace { .. } => Verdict::Refused(Refusal::NotAContainer),
-        NodeData::ProcessingInstruction { .. } => Verdict::Refused(Refusal::NotAContainer),
+        NodeData::Root | NodeData::Element { .. } => Ok(()),
+        _ => Err(Refusal::NotAContainer),
     }
 }
 
 // What keeps a node from being moved or detached.
-fn child_kind(data: NodeData) -> Verdict
+fn child_kind(data: NodeData) -> Result<(), Refusal>
     ensures { verdict_number result ≡ child_kind (kind_of «data») }
 {
     match data {
-        NodeData::Root => Verdict::Refused(Refusal::NotRemovable),
-        NodeData::Element { .. } => Verdict::Accepted,
-        NodeData::Attr { .. } => Verdict::Refused(Refusal::NotAChild),
-        NodeData::Text(_) => Verdict::Accepted,
-        NodeData::Comment(_) => Verdict::Accepted,
-        NodeData::Namespace { .. } => Verdict::Refused(Refusal::NotAChild),
-        NodeData::ProcessingInstruction { .. } => Verdict::Accepted,
+        NodeData::Root => Err(Refusal::NotRemovable),
+        NodeData::Attr { .. } | NodeData::Namespace { .. } => Err(Refusal::NotAChild),
+        _ => Ok(()),
     }
 }
 
-fn text_kind(data: NodeData) -> Verdict
+fn text_kind(data: NodeData) -> Result<(), Refusal>
     ensures { verdict_number result ≡ refuse_if (is_none (text_of (kind_of «data»))) 10 }
 {
     match data {
-        NodeData::Root => Verdict::Refused(Refusal::NotText),
-        NodeData::Element { .. } => Verdict::Refused(Refusal::NotText),
-        NodeData::Attr { .. } => Verdict::Refused(Refusal::NotText),
-        NodeData::Text(_) => Verdict::Accepted,
-        NodeData::Comment(_) => Verdict::Refused(Refusal::NotText),
-        NodeData::Namespace { .. } => Verdict::Refused(Refusal::NotText),
-        NodeData::ProcessingInstruction { .. } => Verdict::Refused(Refusal::NotText),
+        NodeData::Text(_) => Ok(()),
+        _ => Err(Refusal::NotText),
     }
 }
 
@@ -92,11 +62,8 @@ pub fn is_root(d: Document, mem: &[u64], id: NodeId) -> bool
     ensures { result ≡ any_option is_root (view_at (decode d mem.now) (word_of id)) }
 {
     match resolve(d, mem, id) {
-        Loaded::Found(node) => {
-            let data = node.data;
-            root_kind(data)
-        }
-        Loaded::NoNode => false,
+        Some(node) => root_kind(node.data),
+        None => false,
     }
 }
 
@@ -105,66 +72,51 @@ pub fn is_element(d: Document, mem: &[u64], id: NodeId) -> bool
     ensures { result ≡ any_option is_element (view_at (decode d mem.now) (word_of id)) }
 {
     match resolve(d, mem, id) {
-        Loaded::Found(node) => {
-            let data = node.data;
-            element_kind(data)
-        }
-        Loaded::NoNode => false,
+        Some(node) => element_kind(node.data),
+        None => false,
     }
 }
 
 // 6 and 8.
-pub fn container(d: Document, mem: &[u64], id: NodeId) -> Verdict
+pub fn container(d: Document, mem: &[u64], id: NodeId) -> Result<(), Refusal>
     requires { memory_ok d (length mem.now) ≡ true }
     ensures { verdict_number result ≡ container (view_at (decode d mem.now) (word_of id)) }
 {
     match resolve(d, mem, id) {
-        Loaded::Found(node) => {
-            let data = node.data;
-            container_kind(data)
-        }
-        Loaded::NoNode => Verdict::Refused(Refusal::Stale),
+        Some(node) => container_kind(node.data),
+        None => Err(Refusal::Stale),
     }
 }
 
 // 6 and 7.
-pub fn an_element(d: Document, mem: &[u64], id: NodeId) -> Verdict
+pub fn an_element(d: Document, mem: &[u64], id: NodeId) -> Result<(), Refusal>
     requires { memory_ok d (length mem.now) ≡ true }
     ensures { verdict_number result ≡ an_element (view_at (decode d mem.now) (word_of id)) }
 {
     match resolve(d, mem, id) {
-        Loaded::Found(node) => {
-            let data = node.data;
-            refuse_if(!element_kind(data), Refusal::NotAnElement)
-        }
-        Loaded::NoNode => Verdict::Refused(Refusal::Stale),
+        Some(node) => refuse_if(!element_kind(node.data), Refusal::NotAnElement),
+        None => Err(Refusal::Stale),
     }
 }
 
 // 6, 9 and 11.
-pub fn a_child(d: Document, mem: &[u64], id: NodeId) -> Verdict
+pub fn a_child(d: Document, mem: &[u64], id: NodeId) -> Result<(), Refusal>
     requires { memory_ok d (length mem.now) ≡ true }
     ensures { verdict_number result ≡ a_child (view_at (decode d mem.now) (word_of id)) }
 {
     match resolve(d, mem, id) {
-        Loaded::Found(node) => {
-            let data = node.data;
-            child_kind(data)
-        }
-        Loaded::NoNode => Verdict::Refused(Refusal::Stale),
+        Some(node) => child_kind(node.data),
+        None => Err(Refusal::Stale),
     }
 }
 
 // 6 and 10.
-pub fn a_text(d: Document, mem: &[u64], id: NodeId) -> Verdict
+pub fn a_text(d: Document, mem: &[u64], id: NodeId) -> Result<(), Refusal>
     requires { memory_ok d (length mem.now) ≡ true }
     ensures { verdict_number result ≡ a_text (view_at (decode d mem.now) (word_of id)) }
 {
     match resolve(d, mem, id) {
-        Loaded::Found(node) => {
-            let data = node.data;
-            text_kind(data)
-        }
-        Loaded::NoNode => Verdict::Refused(Refusal::Stale),
+        Some(node) => text_kind(node.data),
+        None => Err(Refusal::Stale),
     }
 }

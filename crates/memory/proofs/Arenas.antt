@@ -10,6 +10,7 @@ use Rattle.words.proofs.Parts.{lent, returned}
 use Rattle.blocks.specs.Arena.{Arena, block, arena_of, arena_words, removed}
 use Rattle.blocks.specs.Answer.{insert_answer, insert_words}
 use Rattle.blocks.specs.Held.{Held}
+use Rattle.std.specs.Prelude.{Option}
 use Rattle.blocks.specs.declared.Inserted.{Inserted}
 use Rattle.blocks.proofs.Decoded.{after-length, after-removal-length, held-limit}
 use Rattle.model.specs.Kinds.{Which}
@@ -51,7 +52,7 @@ module _ (d : Document) (w : Which) (mem : List ℕ) where
 
       module _ (h : Held (arena_part d w mem) (entries_of d.limits w) (arena_used d w) s n) where
         -- what it tells of an insertion
-        pub insert-told : (used at id : ℕ) → used ≡ arena_used d w → (r : Inserted) (ys : List ℕ)
+        pub insert-told : (used at id : ℕ) → used ≡ arena_used d w → (r : Option Inserted) (ys : List ℕ)
             → (r ≡ insert_answer (arena_of limit used (take (start + (limit + limit) - start) (drop start mem))) (block s n) at id)
             × (ys ≡ insert_words (take (start + (limit + limit) - start) (drop start mem)) (arena_of limit used (take (start + (limit + limit) - start) (drop start mem))) (block s n) at id)
             → (r ≡ insert_answer (arena_in d w mem) (block s n) at id)

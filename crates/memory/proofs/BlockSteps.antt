@@ -12,8 +12,9 @@ use Rattle.blocks.specs.Arena.{Arena, arena_words, cap_of, has_room, inserted, r
 use Rattle.blocks.specs.Answer.{insert_answer, insert_words}
 use Rattle.blocks.specs.Held.{Held}
 use Rattle.blocks.specs.Rule.{Shaped, Inside}
+use Rattle.std.specs.Prelude.{Option, Some, IsSome, None}
+use Rattle.std.proofs.lemmas.Option.{same_Some}
 use Rattle.blocks.specs.declared.Inserted.{Inserted}
-use Rattle.blocks.specs.declared.Inserted.TheVariants.{At, Full}
 use Rattle.blocks.proofs.Answers.{answer-room, words-room}
 use Rattle.blocks.proofs.Capacities.{capacity-least}
 use Rattle.blocks.proofs.Decoded.{after-length, after-removal-length}
@@ -23,8 +24,6 @@ use Rattle.blocks.proofs.Removal.{removed-inside}
 use Rattle.records.specs.Fields.{RangeFits}
 use Rattle.records.specs.declared.Range.{Range}
 use Rattle.records.specs.declared.Node.{Node}
-use Rattle.records.specs.declared.Loaded.{Loaded}
-use Rattle.records.specs.declared.Loaded.TheVariants.{Found, NoNode}
 use Rattle.model.specs.Kinds.{Which}
 use Rattle.model.specs.Doc.{even, is_some, range_in}
 use Rattle.model.specs.Rules.{has_range}
@@ -40,7 +39,7 @@ use Rattle.memory.proofs.Shaped.{length-arena_part}
 use Rattle.memory.proofs.Written.{length-put_arena}
 
 module _ (d : Document) (mem : List ℕ) (w : Which) (s : ℕ) (h : BlockHeld d mem w s) where
-  abbrev L : Loaded
+  abbrev L : Option Node
   L = loaded_at d.limits.nodes (slots_part d mem) s
 
   pub slot-made : s < slots_made d
@@ -55,7 +54,7 @@ module _ (d : Document) (mem : List ℕ) (w : Which) (s : ℕ) (h : BlockHeld d 
   -- the owner, a node that has such a block
   pub record Owner : Type 0 where
     pub node : Node
-    pub loaded : loaded_at d.limits.nodes (slots_part d mem) s ≡ Found node
+    pub loaded : loaded_at d.limits.nodes (slots_part d mem) s ≡ Some node
     pub has : has_range w (kind_of node.«data») ≡ true
 
   pub owner : Owner
@@ -66,14 +65,14 @@ module _ (d : Document) (mem : List ℕ) (w : Which) (s : ℕ) (h : BlockHeld d 
           and_right (even (generation_at d.limits.nodes (slots_part d mem) s)) (is_some (kind_loaded L))
           (sym (live-in (pool_in d mem) (names_in d mem) (lengths_add d mem) d mem s slot-made) ∙ h.live)
 
-      go : (l : Loaded) → L ≡ l → Owner
-      go (Found m) e = record {
+      go : (l : Option Node) → L ≡ l → Owner
+      go (Some m) e = record {
         node = m;
         loaded = e;
         has =
             ap (has_range w) (sym (kind-found (pool_in d mem) (names_in d mem) (lengths_add d mem) d mem s slot-made m e)) ∙ h.owner;
       }
-      go NoNode e = absurd (false≢true (ap (λ (l : Loaded). is_some (kind_loaded l)) (sym e) ∙ some-kind))
+      go None e = absurd (false≢true (ap (λ (l : Option Node). is_some (kind_loaded l)) (sym e) ∙ some-kind))
 
   -- ---- what the block editor asks, for the block as the code has it
   module _ (b : Range) (eb : block_of b ≡ range_loaded w (loaded_at d.limits.nodes (slots_part d mem) s)) where
@@ -130,13 +129,14 @@ module _ (d : Document) (mem : List ℕ) (w : Which) (s : ℕ) (h : BlockHeld d 
           go (yes q) = rw (inserted-in-place A (block_of b) k id q) (omega (arith, block-narrow))
           go (no q) = rw (inserted-moved A (block_of b) k id (omega arith)) (omega arith)
 
-      module _ (r : Inserted) (e : r ≡ insert_answer (arena_in d w mem) (block_of b) k id) where
-        pub landed : (start len used index : ℕ) → r ≡ At start len used index → Landed start len used
-        landed start len used index q =
+      module _ (r : Option Inserted) (e : r ≡ insert_answer (arena_in d w mem) (block_of b) k id) where
+        pub landed : (x : Inserted) → r ≡ Some x → Landed x.block.start x.block.len x.used
+        landed x q =
             let a = answer-room (arena_part d w mem) A (block_of b) k id has-room in
-            let es : start ≡ (inserted A (block_of b) k id).block.start = cc in
-            let el : len ≡ (inserted A (block_of b) k id).block.len = cc in
-            let eu : used ≡ (inserted A (block_of b) k id).arena.used = cc in
+            let s = same_Some x _ (sym q ∙ e ∙ a) in
+            let es : x.block.start ≡ (inserted A (block_of b) k id).block.start = ap (λ (y : Inserted). y.block.start) s in
+            let el : x.block.len ≡ (inserted A (block_of b) k id).block.len = ap (λ (y : Inserted). y.block.len) s in
+            let eu : x.used ≡ (inserted A (block_of b) k id).arena.used = ap (λ (y : Inserted). y.used) s in
             record {
               start_is = rw insertion-is es;
               len_is = rw insertion-is el;
@@ -145,11 +145,8 @@ module _ (d : Document) (mem : List ℕ) (w : Which) (s : ℕ) (h : BlockHeld d 
               len-narrow = omega (arith, el, inserted-len A (block_of b) k id, block-narrow, entries-narrow);
             }
 
-        pub not_full : r ≡ Full → ⊥
-        not_full q =
-            let a = answer-room (arena_part d w mem) A (block_of b) k id has-room in
-            let z : ◌≡◌ {A = ℕ} 0 1 = cc in
-            omega arith
+        pub inserts : IsSome r
+        inserts = rw (e, answer-room (arena_part d w mem) A (block_of b) k id has-room)
 
       module _ (mem₁ : List ℕ) (e₁ : mem₁ ≡ put_arena d w (insert_words (arena_part d w mem) (arena_in d w mem) (block_of b) k id) mem) where
         pub inserted-memory : memory_ok d (length mem₁) ≡ true

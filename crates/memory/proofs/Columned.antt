@@ -1,5 +1,7 @@
 -- The columns of a document after the words of one slot were replaced.
 -- Assumes nothing.
+use Rattle.records.specs.declared.Node.{Node}
+use Rattle.std.specs.Prelude.{Option}
 use mathlib.Core.Path.{◌≡◌, sym, ap, ◌∙◌}
 use mathlib.Core.List.{List}
 use Prim.Native.Nat.{ℕ, ◌≤◌, ◌<◌}
@@ -12,7 +14,6 @@ use Rattle.words.proofs.Lists.{tabulate-same, tabulate-set}
 use Rattle.records.specs.Records.{node_of}
 use Rattle.slots.specs.Regions.{slots_words, generation_at, free_at, node_at, order_at, put_record}
 use Rattle.records.specs.declared.NodeRecord.{NodeRecord}
-use Rattle.records.specs.declared.Loaded.{Loaded}
 use Rattle.slots.proofs.Regions.{record_at-put_record, record_at-put_record-other, node_at-record_at, generation_at-put_record, free_at-put_record, order_at-put_record}
 use Rattle.memory.specs.Decode.{loaded_at}
 
@@ -24,7 +25,7 @@ module _ (n : ℕ) (w : List ℕ) (long : slots_words n ≤ length w) (s : ℕ) 
   loaded-other t h ne =
       rw (generation_at-put_record n w long s r b t h, node_at-record_at n v w t t (record_at-put_record-other n w long s r b t ne))
 
-  pub loaded-here : (l : Loaded) → generation_at n w s < 4294967296 → node_of r ≡ l → loaded_at n (put_record n w s r) s ≡ l
+  pub loaded-here : (l : Option Node) → generation_at n w s < 4294967296 → node_of r ≡ l → loaded_at n (put_record n w s r) s ≡ l
   unfolding node_at
   loaded-here l g e =
       rw (generation_at-put_record n w long s r b s b, lt-ltb (generation_at n w s) 4294967296 g, record_at-put_record n w long s r b) e
@@ -41,7 +42,7 @@ module _ (n : ℕ) (w : List ℕ) (long : slots_words n ≤ length w) (s : ℕ) 
     order-kept = tabulate-same (order_at n v) (order_at n w) made (λ t h. order_at-put_record n w long s r b t)
 
     -- ---- a column of what is loaded
-    module _ {A : Type 0} (f : Loaded → A) where
+    module _ {A : Type 0} (f : Option Node → A) where
       pub column-set : (e : A) → s < made → f (loaded_at n (put_record n w s r) s) ≡ e
           → tabulate (λ t. f (loaded_at n (put_record n w s r) t)) made ≡ set (tabulate (λ t. f (loaded_at n w t)) made) s e
       column-set e h q =

@@ -1,8 +1,8 @@
 -- What the decoded document has in a slot, in terms of the words: for every memory, whatever the texts and the names are.
 -- Assumes nothing.
+use Rattle.std.specs.Prelude.{Option, None, Some}
 use mathlib.Core.Path.{◌≡◌, refl, sym, ap, ◌∙◌}
 use mathlib.Core.Bool.{Bool, true, false, ◌&&◌, cond, and-false}
-use mathlib.Core.Option.{Option, none}
 use mathlib.Core.List.{List}
 use Prim.Native.Nat.{ℕ, ◌%◌, ◌≤◌, ◌<◌}
 use native.Mathlib.Omega.{arith}
@@ -18,8 +18,6 @@ use Rattle.slots.specs.Regions.{generation_at, node_at, order_at}
 use Rattle.slots.specs.Slots.{is_current, resolved}
 use Rattle.records.specs.declared.NodeId.{NodeId}
 use Rattle.records.specs.declared.Node.{Node}
-use Rattle.records.specs.declared.Loaded.{Loaded}
-use Rattle.records.specs.declared.Loaded.TheVariants.{Found, NoNode}
 use Rattle.records.proofs.Handles.{handle_index-word_of, handle_generation-word_of}
 use Rattle.slots.proofs.Slots.{resolves-found, resolves-current}
 use Rattle.texts.specs.Pool.{Pool}
@@ -52,11 +50,11 @@ module _ (p : Pool) (names : List (Option Name)) (lengths : Bool) (d : Document)
     pub generation-in : doc.generation_at (decode_with p names lengths d mem) s ≡ generation_at d.limits.nodes (slots_part d mem) s
     generation-in = get_or-tabulate (generation_at n w) (slots_made d) s 1 b
 
-    pub kind-column : get_or (decode_with p names lengths d mem).kinds s none ≡ kind_loaded (loaded_at d.limits.nodes (slots_part d mem) s)
-    kind-column = get_or-tabulate (λ t. kind_loaded (loaded_at n w t)) (slots_made d) s none b
+    pub kind-column : get_or (decode_with p names lengths d mem).kinds s None ≡ kind_loaded (loaded_at d.limits.nodes (slots_part d mem) s)
+    kind-column = get_or-tabulate (λ t. kind_loaded (loaded_at n w t)) (slots_made d) s None b
 
     pub parent-in : parent_in (decode_with p names lengths d mem) s ≡ parent_loaded (loaded_at d.limits.nodes (slots_part d mem) s)
-    parent-in = get_or-tabulate (λ t. parent_loaded (loaded_at n w t)) (slots_made d) s none b
+    parent-in = get_or-tabulate (λ t. parent_loaded (loaded_at n w t)) (slots_made d) s None b
 
     pub range-in : (a : Which) → range_in (decode_with p names lengths d mem) a s ≡ range_loaded a (loaded_at d.limits.nodes (slots_part d mem) s)
     range-in a = get_or-tabulate (λ t. range_loaded a (loaded_at n w t)) (slots_made d) s (block 0 0) b
@@ -72,7 +70,7 @@ module _ (p : Pool) (names : List (Option Name)) (lengths : Bool) (d : Document)
     live-in = rw (generation-in, kind-column)
 
     -- ---- its node, where its words are one
-    module _ (m : Node) (e : loaded_at d.limits.nodes (slots_part d mem) s ≡ Found m) where
+    module _ (m : Node) (e : loaded_at d.limits.nodes (slots_part d mem) s ≡ Some m) where
       pub kind-found : kind_in (decode_with p names lengths d mem) s ≡ kind_of m.«data»
       kind-found = rw (kind-column, e)
 
@@ -86,14 +84,14 @@ module _ (p : Pool) (names : List (Option Name)) (lengths : Bool) (d : Document)
       list-found a = ap (list_of (arena_in d a mem)) (range-found a)
 
       pub live-found : live_slot (decode_with p names lengths d mem) s ≡ even (generation_at d.limits.nodes (slots_part d mem) s)
-      live-found = live-in ∙ ap (λ (l : Loaded). even (generation_at n w s) && is_some (kind_loaded l)) e ∙ and-true (even (generation_at n w s))
+      live-found = live-in ∙ ap (λ (l : Option Node). even (generation_at n w s) && is_some (kind_loaded l)) e ∙ and-true (even (generation_at n w s))
         where
           and-true : (t : Bool) → (t && true) ≡ t
           and-true true = refl
           and-true false = refl
 
-    pub live-none : loaded_at d.limits.nodes (slots_part d mem) s ≡ NoNode → live_slot (decode_with p names lengths d mem) s ≡ false
-    live-none e = live-in ∙ ap (λ (l : Loaded). even (generation_at n w s) && is_some (kind_loaded l)) e ∙ and-false (even (generation_at n w s))
+    pub live-none : loaded_at d.limits.nodes (slots_part d mem) s ≡ None → live_slot (decode_with p names lengths d mem) s ≡ false
+    live-none e = live-in ∙ ap (λ (l : Option Node). even (generation_at n w s) && is_some (kind_loaded l)) e ∙ and-false (even (generation_at n w s))
 
   -- ---- a slot past those made
 
@@ -129,18 +127,18 @@ module _ (p : Pool) (names : List (Option Name)) (lengths : Bool) (d : Document)
     -- what resolves: the slot was made, its node is loaded, and the document's handle resolves
     pub record Resolved (m : Node) : Type 0 where
       pub slot-made : h.index < slots_made d
-      pub loaded : loaded_at d.limits.nodes (slots_part d mem) h.index ≡ Found m
+      pub loaded : loaded_at d.limits.nodes (slots_part d mem) h.index ≡ Some m
       pub generation : generation_at d.limits.nodes (slots_part d mem) h.index ≡ h.generation
       pub resolves-handle : resolves (decode_with p names lengths d mem) (word_of h) ≡ true
 
     loaded-narrow : generation_at n w h.index ≡ h.generation → loaded_at n w h.index ≡ node_at n w h.index
     loaded-narrow e = rw (e, lt-ltb h.generation 4294967296 hg)
 
-    pub resolved-found : (m : Node) → resolved_in d mem h ≡ Found m → Resolved m
+    pub resolved-found : (m : Node) → resolved_in d mem h ≡ Some m → Resolved m
     unfolding resolved
     resolved-found m e =
         let c = resolves-current n w (slots_made d) h (resolves-found n w (slots_made d) h m e) in
-        let l : loaded_at n w h.index ≡ Found m = loaded-narrow c.same-generation ∙ found-node e in
+        let l : loaded_at n w h.index ≡ Some m = loaded-narrow c.same-generation ∙ found-node e in
         record {
           slot-made = c.made-slot;
           loaded = l;
@@ -156,16 +154,16 @@ module _ (p : Pool) (names : List (Option Name)) (lengths : Bool) (d : Document)
               );
         }
       where
-        found-node : resolved_in d mem h ≡ Found m → node_at n w h.index ≡ Found m
+        found-node : resolved_in d mem h ≡ Some m → node_at n w h.index ≡ Some m
         found-node e = go (is_current n w (slots_made d) h) e
           where
-            go : (t : Bool) → cond t (node_at n w h.index) NoNode ≡ Found m → node_at n w h.index ≡ Found m
+            go : (t : Bool) → cond t (node_at n w h.index) None ≡ Some m → node_at n w h.index ≡ Some m
             go true q = q
             go false q =
                 let z : ◌≡◌ {A = ℕ} 0 1 = cc in
                 absurd (omega arith)
 
-    pub resolved-none : resolved_in d mem h ≡ NoNode → resolves (decode_with p names lengths d mem) (word_of h) ≡ false
+    pub resolved-none : resolved_in d mem h ≡ None → resolves (decode_with p names lengths d mem) (word_of h) ≡ false
     unfolding resolved is_current
     resolved-none e = word-resolves ∙ made (dec_lt h.index (slots_made d))
       where

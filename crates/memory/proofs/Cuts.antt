@@ -30,15 +30,15 @@ use Rattle.memory.proofs.Arenas.{arena-lent}
 use Rattle.memory.proofs.Lent.{ends, texts-lent, names-lent}
 
 -- what was cut from start on, and the buffer once it came back
-module _ (mem : List ℕ) (start at n : ℕ) (e : start ≡ at) (room : at + n ≤ length mem) (ys : List ℕ) (long : length ys ≡ length (take (start + n - start) (drop start mem))) where
+module _ (mem : List ℕ) (start stop at n : ℕ) (e : start ≡ at) (es : stop ≡ start + n) (room : at + n ≤ length mem) (ys : List ℕ) (long : length ys ≡ length (take (stop - start) (drop start mem))) where
   abbrev left : List ℕ
-  left = take start mem ++ (ys ++ drop (start + n - start) (drop start mem))
+  left = take start mem ++ (ys ++ drop (stop - start) (drop start mem))
 
   size : length ys ≡ n
-  size = long ∙ ap length (lent mem start n) ∙ length_part mem start n (omega arith)
+  size = long ∙ rw es (ap length (lent mem start n) ∙ length_part mem start n (omega arith))
 
   left-put : left ≡ put at ys mem
-  left-put = returned mem ys start n size ∙ ap (λ (p : ℕ). put p ys mem) e
+  left-put = rw es (returned mem ys start n size) ∙ ap (λ (p : ℕ). put p ys mem) e
 
   left-part : part at n left ≡ ys
   left-part =
@@ -126,62 +126,62 @@ module _ (d : Document) (mem : List ℕ) where
 
   -- ---- the texts
 
-  module _ (limits : TextLimits) (el : limits ≡ text_limits d) (counts : TextCounts) (ec : counts ≡ text_counts d) (start : ℕ) (e : start ≡ texts_at (limits_of d.limits)) where
+  module _ (limits : TextLimits) (el : limits ≡ text_limits d) (counts : TextCounts) (ec : counts ≡ text_counts d) (start stop : ℕ) (e : start ≡ texts_at (limits_of d.limits)) (es : stop ≡ start + (2 * d.limits.texts + d.limits.textbytes)) where
     abbrev cut : List ℕ
-    cut = take (start + (2 * d.limits.texts + d.limits.textbytes) - start) (drop start mem)
+    cut = take (stop - start) (drop start mem)
 
     -- P is what the lower layer asks of them
     pub texts-asked : (P : TextLimits → TextCounts → List ℕ → Type 0) → P (text_limits d) (text_counts d) (texts_part d mem) → P limits counts cut
     texts-asked P h =
         subst (λ (x : TextLimits). P x counts cut) (sym el)
         (subst (λ (x : TextCounts). P (text_limits d) x cut) (sym ec)
-        (subst (λ (x : List ℕ). P (text_limits d) (text_counts d) x) (sym (texts-lent d mem start e)) h))
+        (subst (λ (x : List ℕ). P (text_limits d) (text_counts d) x) (sym (texts-lent d mem start stop e es)) h))
 
     -- and P what it tells
     pub texts-told : memory_ok d (length mem) ≡ true → (P : TextLimits → TextCounts → List ℕ → List ℕ → Type 0) (ys : List ℕ) → length ys ≡ length cut → P limits counts cut ys
-        → P (text_limits d) (text_counts d) (texts_part d mem) (texts_part d (take start mem ++ (ys ++ drop (start + (2 * d.limits.texts + d.limits.textbytes) - start) (drop start mem))))
-        × (take start mem ++ (ys ++ drop (start + (2 * d.limits.texts + d.limits.textbytes) - start) (drop start mem))
-        ≡ put_texts d (texts_part d (take start mem ++ (ys ++ drop (start + (2 * d.limits.texts + d.limits.textbytes) - start) (drop start mem)))) mem)
+        → P (text_limits d) (text_counts d) (texts_part d mem) (texts_part d (take start mem ++ (ys ++ drop (stop - start) (drop start mem))))
+        × (take start mem ++ (ys ++ drop (stop - start) (drop start mem))
+        ≡ put_texts d (texts_part d (take start mem ++ (ys ++ drop (stop - start) (drop start mem)))) mem)
     unfolding put_texts
     texts-told ok P ys k h =
         let at = texts_at (limits_of d.limits) in
         let n = 2 * d.limits.texts + d.limits.textbytes in
         let room : at + n ≤ length mem = (ends d (length mem) ok).texts in
-        let there = left-part mem start at n e room ys k in (
+        let there = left-part mem start stop at n e es room ys k in (
           subst (λ (x : List ℕ). P (text_limits d) (text_counts d) (texts_part d mem) x) (sym there)
               (subst (λ (x : TextLimits). P x (text_counts d) (texts_part d mem) ys) el
               (subst (λ (x : TextCounts). P limits x (texts_part d mem) ys) ec
-              (subst (λ (x : List ℕ). P limits counts x ys) (texts-lent d mem start e) h))),
-          left-put mem start at n e room ys k ∙ ap (λ (x : List ℕ). put at x mem) (sym there),
+              (subst (λ (x : List ℕ). P limits counts x ys) (texts-lent d mem start stop e es) h))),
+          left-put mem start stop at n e es room ys k ∙ ap (λ (x : List ℕ). put at x mem) (sym there),
         )
 
   -- ---- the names
 
-  module _ (limits : NameLimits) (el : limits ≡ name_limits d) (counts : NameCounts) (ec : counts ≡ name_counts d) (start : ℕ) (e : start ≡ names_at (limits_of d.limits)) where
+  module _ (limits : NameLimits) (el : limits ≡ name_limits d) (counts : NameCounts) (ec : counts ≡ name_counts d) (start stop : ℕ) (e : start ≡ names_at (limits_of d.limits)) (es : stop ≡ start + (2 * d.limits.names + d.limits.namebytes)) where
     abbrev names-cut : List ℕ
-    names-cut = take (start + (2 * d.limits.names + d.limits.namebytes) - start) (drop start mem)
+    names-cut = take (stop - start) (drop start mem)
 
     pub names-asked : (P : NameLimits → NameCounts → List ℕ → Type 0) → P (name_limits d) (name_counts d) (names_part d mem) → P limits counts names-cut
     names-asked P h =
         subst (λ (x : NameLimits). P x counts names-cut) (sym el)
         (subst (λ (x : NameCounts). P (name_limits d) x names-cut) (sym ec)
-        (subst (λ (x : List ℕ). P (name_limits d) (name_counts d) x) (sym (names-lent d mem start e)) h))
+        (subst (λ (x : List ℕ). P (name_limits d) (name_counts d) x) (sym (names-lent d mem start stop e es)) h))
 
     pub names-told : memory_ok d (length mem) ≡ true → (P : NameLimits → NameCounts → List ℕ → List ℕ → Type 0) (ys : List ℕ) → length ys ≡ length names-cut → P limits counts names-cut ys
-        → P (name_limits d) (name_counts d) (names_part d mem) (names_part d (take start mem ++ (ys ++ drop (start + (2 * d.limits.names + d.limits.namebytes) - start) (drop start mem))))
-        × (take start mem ++ (ys ++ drop (start + (2 * d.limits.names + d.limits.namebytes) - start) (drop start mem))
-        ≡ put_names d (names_part d (take start mem ++ (ys ++ drop (start + (2 * d.limits.names + d.limits.namebytes) - start) (drop start mem)))) mem)
+        → P (name_limits d) (name_counts d) (names_part d mem) (names_part d (take start mem ++ (ys ++ drop (stop - start) (drop start mem))))
+        × (take start mem ++ (ys ++ drop (stop - start) (drop start mem))
+        ≡ put_names d (names_part d (take start mem ++ (ys ++ drop (stop - start) (drop start mem)))) mem)
     unfolding put_names
     names-told ok P ys k h =
         let at = names_at (limits_of d.limits) in
         let n = 2 * d.limits.names + d.limits.namebytes in
         let room : at + n ≤ length mem = (ends d (length mem) ok).names in
-        let there = left-part mem start at n e room ys k in (
+        let there = left-part mem start stop at n e es room ys k in (
           subst (λ (x : List ℕ). P (name_limits d) (name_counts d) (names_part d mem) x) (sym there)
               (subst (λ (x : NameLimits). P x (name_counts d) (names_part d mem) ys) el
               (subst (λ (x : NameCounts). P limits x (names_part d mem) ys) ec
-              (subst (λ (x : List ℕ). P limits counts x ys) (names-lent d mem start e) h))),
-          left-put mem start at n e room ys k ∙ ap (λ (x : List ℕ). put at x mem) (sym there),
+              (subst (λ (x : List ℕ). P limits counts x ys) (names-lent d mem start stop e es) h))),
+          left-put mem start stop at n e es room ys k ∙ ap (λ (x : List ℕ). put at x mem) (sym there),
         )
 
   -- ---- marks in scratch

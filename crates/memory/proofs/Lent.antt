@@ -1,8 +1,8 @@
 -- Lent parts of the pool and of the table, and the texts and names that are read from them.
 -- Assumes nothing.
+use Rattle.std.specs.Prelude.{Option, None, Some}
 use mathlib.Core.Path.{◌≡◌, refl, sym, ap, ◌∙◌}
-use mathlib.Core.Bool.{Bool, true}
-use mathlib.Core.Option.{Option, none, some}
+use mathlib.Core.Bool.{true}
 use mathlib.Core.List.{List, []}
 use Prim.Native.Nat.{ℕ, ◌+◌, ◌-◌, ◌*◌, ◌≤◌, ◌<◌}
 use native.Mathlib.Omega.{arith}
@@ -10,26 +10,22 @@ use lib.ListN.{length, take, drop}
 use Rattle.words.specs.Parts.{part}
 use Rattle.words.proofs.Parts.{lent, length_part}
 use Rattle.words.specs.declared.TextSlot.{TextSlot}
-use Rattle.records.specs.declared.Chars.{Chars}
-use Rattle.records.specs.declared.Chars.TheVariants.{Empty, Expanded}
 use Rattle.texts.specs.Pool.{text_at}
 use Rattle.texts.specs.Words.{text_shown}
 use Rattle.texts.specs.declared.TextLimits.{TextLimits}
 use Rattle.texts.specs.declared.TextCounts.{TextCounts}
-use Rattle.names.specs.Words.{name_there, part_shown}
 use Rattle.names.specs.declared.NameLimits.{NameLimits}
-use Rattle.names.specs.declared.NameCounts.{NameCounts}
 use Rattle.layout.specs.declared.Document.{Document}
 use Rattle.layout.specs.Layout.{limits_of, texts_at, names_at, memory_ok}
-use Rattle.memory.specs.Decode.{slot_of, text_limits, text_counts, texts_part, name_limits, name_counts, names_part, pool_in}
-use Rattle.memory.specs.Stored.{text_in, name_part}
+use Rattle.memory.specs.Decode.{slot_of, text_limits, text_counts, texts_part, name_limits, names_part, pool_in}
+use Rattle.memory.specs.Stored.{text_in}
 use Rattle.layout.proofs.Sizes.{memory-limits, memory-long, limits-fit, words-fit, texts-next, names-next, words-next}
 use Rattle.memory.proofs.Shown.{text-shown}
 
 -- the document's texts are those that the words show
 pub texts-shown : (d : Document) (mem : List ℕ) (t : Option ℕ) → text_at (pool_in d mem) t ≡ text_in d mem t
-texts-shown d mem none = refl
-texts-shown d mem (some s) = text-shown d mem s
+texts-shown d mem None = refl
+texts-shown d mem (Some s) = text-shown d mem s
 
 -- ---- the parts of the pool and of the table
 
@@ -50,13 +46,13 @@ ends d mem h =
     record { texts = omega arith; names = omega arith; texts-narrow = omega arith; names-narrow = omega arith }
 
 module _ (d : Document) (mem : List ℕ) where
-  pub texts-lent : (start : ℕ) → start ≡ texts_at (limits_of d.limits)
-      → take (start + (2 * d.limits.texts + d.limits.textbytes) - start) (drop start mem) ≡ texts_part d mem
-  texts-lent start e = lent mem start (2 * d.limits.texts + d.limits.textbytes) ∙ ap (λ (a : ℕ). part a (2 * d.limits.texts + d.limits.textbytes) mem) e
+  pub texts-lent : (start stop : ℕ) → start ≡ texts_at (limits_of d.limits) → stop ≡ start + (2 * d.limits.texts + d.limits.textbytes)
+      → take (stop - start) (drop start mem) ≡ texts_part d mem
+  texts-lent start stop e es = rw es (lent mem start (2 * d.limits.texts + d.limits.textbytes)) ∙ ap (λ (a : ℕ). part a (2 * d.limits.texts + d.limits.textbytes) mem) e
 
-  pub names-lent : (start : ℕ) → start ≡ names_at (limits_of d.limits)
-      → take (start + (2 * d.limits.names + d.limits.namebytes) - start) (drop start mem) ≡ names_part d mem
-  names-lent start e = lent mem start (2 * d.limits.names + d.limits.namebytes) ∙ ap (λ (a : ℕ). part a (2 * d.limits.names + d.limits.namebytes) mem) e
+  pub names-lent : (start stop : ℕ) → start ≡ names_at (limits_of d.limits) → stop ≡ start + (2 * d.limits.names + d.limits.namebytes)
+      → take (stop - start) (drop start mem) ≡ names_part d mem
+  names-lent start stop e es = rw es (lent mem start (2 * d.limits.names + d.limits.namebytes)) ∙ ap (λ (a : ℕ). part a (2 * d.limits.names + d.limits.namebytes) mem) e
 
   -- the limits, the counts and the words that a lower reader is handed
   module _ (l : TextLimits) (w : List ℕ) (e : l ≡ text_limits d) (q : w ≡ texts_part d mem) where
@@ -67,7 +63,7 @@ module _ (d : Document) (mem : List ℕ) where
         ap length q ∙ length_part mem (texts_at (limits_of d.limits)) (2 * d.limits.texts + d.limits.textbytes) z.texts ∙ omega arith in
         n ∙ sym (ap (λ (k : TextLimits). k.slots + k.slots + k.bytes) e)
 
-    pub text-of : (n : TextCounts) (s : ℕ) (r : List ℕ) → n ≡ text_counts d → r ≡ text_shown l n s w → r ≡ text_in d mem (some s)
+    pub text-of : (n : TextCounts) (s : ℕ) (r : List ℕ) → n ≡ text_counts d → r ≡ text_shown l n s w → r ≡ text_in d mem (Some s)
     text-of n s r k h =
         h
         ∙ ap (λ (x : TextLimits). text_shown x n s w) e
@@ -82,25 +78,10 @@ module _ (d : Document) (mem : List ℕ) where
         ap length q ∙ length_part mem (names_at (limits_of d.limits)) (2 * d.limits.names + d.limits.namebytes) z.names ∙ omega arith in
         n ∙ sym (ap (λ (k : NameLimits). k.names + k.names + k.bytes) e)
 
-    module _ (n : NameCounts) (k : n ≡ name_counts d) where
-      pub there-of : (i : ℕ) (r : Bool) → r ≡ name_there l n i w → r ≡ name_there (name_limits d) (name_counts d) i (names_part d mem)
-      there-of i r h =
-          h
-          ∙ ap (λ (x : NameLimits). name_there x n i w) e
-          ∙ ap (λ (x : NameCounts). name_there (name_limits d) x i w) k
-          ∙ ap (name_there (name_limits d) (name_counts d) i) q
-
-      pub part_of : (i j : ℕ) (r : List ℕ) → r ≡ part_shown l n i j w → r ≡ name_part d mem i j
-      part_of i j r h =
-          h
-          ∙ ap (λ (x : NameLimits). part_shown x n i j w) e
-          ∙ ap (λ (x : NameCounts). part_shown (name_limits d) x i j w) k
-          ∙ ap (part_shown (name_limits d) (name_counts d) i j) q
-
 -- a text field
-module _ (d : Document) (mem : List ℕ) (t : Chars) where
-  pub field-empty : t ≡ Empty → [] ≡ text_in d mem (slot_of t)
-  field-empty e = sym (ap (λ (x : Chars). text_in d mem (slot_of x)) e)
+module _ (d : Document) (mem : List ℕ) (t : Option TextSlot) where
+  pub field-empty : t ≡ None → [] ≡ text_in d mem (slot_of t)
+  field-empty e = sym (ap (λ (x : Option TextSlot). text_in d mem (slot_of x)) e)
 
-  pub field-slot : (s : TextSlot) → t ≡ Expanded s → (r : List ℕ) → r ≡ text_in d mem (some s.0) → r ≡ text_in d mem (slot_of t)
-  field-slot s e r q = q ∙ sym (ap (λ (x : Chars). text_in d mem (slot_of x)) e)
+  pub field-slot : (s : TextSlot) → t ≡ Some s → (r : List ℕ) → r ≡ text_in d mem (Some s.0) → r ≡ text_in d mem (slot_of t)
+  field-slot s e r q = q ∙ sym (ap (λ (x : Option TextSlot). text_in d mem (slot_of x)) e)

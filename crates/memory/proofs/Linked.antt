@@ -1,8 +1,8 @@
 -- What an edit of a block does to the document: `set_block` of the model, which `link` and `unlink_from` are.
 -- Assumes nothing.
+use Rattle.std.specs.Prelude.{Option, Some}
 use mathlib.Core.Path.{◌≡◌, refl, sym, ap, ◌∙◌}
 use mathlib.Core.Bool.{Bool, true, false, false≢true}
-use mathlib.Core.Option.{Option}
 use mathlib.Core.List.{List}
 use Prim.Native.Nat.{ℕ, ◌+◌, ◌≤◌, ◌<◌}
 use native.Mathlib.Nat.{min-eq_left}
@@ -10,7 +10,6 @@ use lib.ListN.{length, set}
 use Rattle.blocks.specs.Arena.{Edit, arena_of, arena_words}
 use Rattle.records.specs.Fields.{RangeFits}
 use Rattle.records.specs.declared.Node.{Node}
-use Rattle.records.specs.declared.Loaded.TheVariants.{Found}
 use Rattle.texts.specs.Pool.{Pool}
 use Rattle.names.specs.Table.{Name}
 use Rattle.model.specs.Kinds.{Which, children, attributes, namespaces, same_which}
@@ -57,7 +56,7 @@ pub record EditFits (limit : ℕ) (e : Edit) : Type 0 where
 module _ (p : Pool) (names : List (Option Name)) (lengths : Bool) (d : Document) (mem : List ℕ) (ok : memory_ok d (length mem) ≡ true)
     (counts : counts_within (limits_of d.limits) d.counts ≡ true)
     (w : Which) (s : ℕ) (made : s < slots_made d)
-    (m : Node) (loaded : loaded_at d.limits.nodes (slots_part d mem) s ≡ Found m) (has : has_range w (kind_of m.«data») ≡ true)
+    (m : Node) (loaded : loaded_at d.limits.nodes (slots_part d mem) s ≡ Some m) (has : has_range w (kind_of m.«data») ≡ true)
     (e : Edit) (f : EditFits (entries_of d.limits w) e) where
   abbrev d' : Document
   d' = with_used d w e.arena.used

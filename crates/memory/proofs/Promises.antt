@@ -1,8 +1,9 @@
 -- What the writing steps promise: each is one change of the decoded document.
 -- Assumes nothing.
+use Rattle.records.specs.declared.NodeId.{NodeId}
+use Rattle.std.specs.Prelude.{Option, Some}
 use mathlib.Core.Path.{◌≡◌, refl, sym, ap, ◌∙◌}
 use mathlib.Core.Bool.{true}
-use mathlib.Core.Option.{some}
 use mathlib.Core.List.{List}
 use Prim.Native.Nat.{ℕ, ◌+◌, ◌≤◌, ◌<◌}
 use native.Mathlib.Omega.{arith}
@@ -16,11 +17,9 @@ use Rattle.blocks.proofs.Edits.{inserted-used, room-then, removed-used}
 use Rattle.records.specs.Fields.{RangeFits, ParentFits, NodeFits}
 use Rattle.records.specs.Handles.{handle_index}
 use Rattle.slots.specs.Regions.{slots_words, generation_at, put_record}
-use Rattle.records.specs.declared.Parent.{Parent}
 use Rattle.records.specs.declared.Range.{Range}
 use Rattle.records.specs.declared.Node.{Node}
 use Rattle.records.specs.declared.NodeRecord.{NodeRecord}
-use Rattle.records.specs.declared.Loaded.TheVariants.{Found}
 use Rattle.slots.proofs.Regions.{length-put_record}
 use Rattle.model.specs.Kinds as kinds
 use Rattle.model.specs.Kinds.{Which}
@@ -57,15 +56,15 @@ module _ (d : Document) (mem : List ℕ) (ok : memory_ok d (length mem) ≡ true
 
   -- another node in a slot whose generation is of 32 bits
   pub node-promise : (m : Node) → NodeFits m → generation_at d.limits.nodes (slots_part d mem) s < 4294967296
-      → decode d (put_node d mem s m) ≡ set_node (decode d mem) s (some (kind_of m.«data»)) (handle_of m.parent) (λ a. range_of a m)
+      → decode d (put_node d mem s m) ≡ set_node (decode d mem) s (Some (kind_of m.«data»)) (handle_of m.parent) (λ a. range_of a m)
   unfolding put_node
   node-promise m f g =
       decode-kept d mem (put_node d mem s m) (words-texts d mem ok s bound _)
       ∙ steps.decode-put_node (pool_in d mem) (names_in d mem) (lengths_add d mem) d mem ok s h m f g
 
-  module _ (m : Node) (e : loaded_at d.limits.nodes (slots_part d mem) s ≡ Found m) where
+  module _ (m : Node) (e : loaded_at d.limits.nodes (slots_part d mem) s ≡ Some m) where
     -- the node that was there, with another parent
-    pub parent-promise : (q : Parent) → ParentFits q → (id : ℕ) → handle_index id ≡ s
+    pub parent-promise : (q : Option NodeId) → ParentFits q → (id : ℕ) → handle_index id ≡ s
         → decode (outdated d) (put_parent d mem s q) ≡ set_parent (decode d mem) id (handle_of q)
     unfolding put_parent lengths_add
     parent-promise q f id j =
@@ -119,7 +118,7 @@ module _ (d : Document) (mem : List ℕ) (w : Which) (s : ℕ) (h : BlockHeld d 
     unfolding insertion
     insertion-fits =
         let q = words-room (arena_part d w mem) A (block_of b) k id room in
-        let l = landed d mem w s h b (block-in d mem w s h) room k id _ refl _ _ _ _ (answer-room (arena_part d w mem) A (block_of b) k id room) in
+        let l = landed d mem w s h b (block-in d mem w s h) room k id _ refl _ (answer-room (arena_part d w mem) A (block_of b) k id room) in
         record {
           long = ap length (sym q) ∙ after-length (arena_part d w mem) E (arena_used d w) b.start b.len held k id;
           arena =
@@ -162,7 +161,7 @@ module _ (d : Document) (mem : List ℕ) (w : Which) (s : ℕ) (h : BlockHeld d 
 
     -- drop_entry: the id is unlinked from its parent
     pub unlink-promise : (p : ℕ) → handle_index p ≡ s → kinds.which_of (kind_at (decode d mem) id) ≡ w
-        → decode (outdated d) (put_block d mem w s (removal d mem w s id)) ≡ unlink_from (some p) (decode d mem) id
+        → decode (outdated d) (put_block d mem w s (removal d mem w s id)) ≡ unlink_from (Some p) (decode d mem) id
     unfolding removal
     unlink-promise p j e =
         ap (λ (x : Document). decode x (put_block d mem w s (removal d mem w s id))) (sym used-stays)

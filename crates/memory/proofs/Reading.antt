@@ -1,5 +1,6 @@
 -- What the readers of the lent buffer cite, over plain values.
 -- Assumes nothing.
+use Rattle.std.specs.Prelude.{Option, None}
 use mathlib.Core.Path.{◌≡◌, sym, ap, ◌∙◌}
 use mathlib.Core.List.{List}
 use Prim.Native.Nat.{ℕ, ◌+◌, ◌-◌, ◌*◌, ◌≤◌, ◌<◌, min}
@@ -12,8 +13,6 @@ use Rattle.words.proofs.Parts.{get_or-part, take_part, part-part}
 use Rattle.records.specs.Records.{node_of}
 use Rattle.slots.specs.Regions.{generation_at, record_at, node_at}
 use Rattle.records.specs.declared.NodeRecord.{NodeRecord}
-use Rattle.records.specs.declared.Loaded.{Loaded}
-use Rattle.records.specs.declared.Loaded.TheVariants.{NoNode}
 use Rattle.records.specs.declared.Node.{Node}
 use Rattle.records.specs.declared.Range.{Range}
 use Rattle.model.specs.Kinds.{Which, attributes, namespaces}
@@ -32,11 +31,11 @@ slots_lent d mem =
     rw e
 
 module _ (n : ℕ) (w : List ℕ) (s g : ℕ) (e : g ≡ generation_at n w s) where
-  pub load-node : g < 4294967296 → (r : NodeRecord) (m : Loaded) → r ≡ record_at n w s → m ≡ node_of r → m ≡ loaded_at n w s
+  pub load-node : g < 4294967296 → (r : NodeRecord) (m : Option Node) → r ≡ record_at n w s → m ≡ node_of r → m ≡ loaded_at n w s
   unfolding node_at
   load-node h r m q k = k ∙ ap node_of q ∙ sym (rw (← e, lt-ltb g 4294967296 h))
 
-  pub load-none : 4294967296 ≤ g → NoNode ≡ loaded_at n w s
+  pub load-none : 4294967296 ≤ g → None ≡ loaded_at n w s
   load-none h = rw (← e, le-ltb g 4294967296 h)
 
 pub entry_read : (d : Document) (w : Which) (mem : List ℕ) (start at : ℕ) → start ≡ arena_at (limits_of d.limits) w → at < entries_of d.limits w

@@ -1,8 +1,8 @@
 -- Every memory that test 4 lets through is a document of the right shape, and only the words of the layout are read.
 -- Assumes nothing.
+use Rattle.std.specs.Prelude.{Option, None, Some}
 use mathlib.Core.Path.{◌≡◌, refl, sym, ◌∙◌}
 use mathlib.Core.Bool.{Bool, true, false, cond}
-use mathlib.Core.Option.{Option, none, some}
 use mathlib.Core.List.{List}
 use Prim.Native.Nat.{ℕ, ◌+◌, ◌*◌, ◌≤◌, ◌<◌}
 use native.Mathlib.Omega.{arith}
@@ -21,8 +21,6 @@ use Rattle.records.specs.declared.Range.{Range}
 use Rattle.records.specs.declared.NodeData.{NodeData}
 use Rattle.records.specs.declared.NodeData.TheVariants as given
 use Rattle.records.specs.declared.Node.{Node}
-use Rattle.records.specs.declared.Loaded.{Loaded}
-use Rattle.records.specs.declared.Loaded.TheVariants.{Found, NoNode}
 use Rattle.slots.proofs.Regions.{node_at-fits}
 use Rattle.texts.specs.Pool.{Pool}
 use Rattle.names.specs.Table.{Name}
@@ -56,17 +54,17 @@ module _ (d : Document) (mem : List ℕ) (ok : memory_ok d (length mem) ≡ true
 
 -- ---- a range that the kind has no use for is (0, 0)
 
-loaded-node : (n : ℕ) (w : List ℕ) (s : ℕ) (m : Node) → loaded_at n w s ≡ Found m → node_at n w s ≡ Found m
+loaded-node : (n : ℕ) (w : List ℕ) (s : ℕ) (m : Node) → loaded_at n w s ≡ Some m → node_at n w s ≡ Some m
 loaded-node n w s m e = go (ltb (generation_at n w s) 4294967296) e
   where
-    go : (t : Bool) → cond t (node_at n w s) NoNode ≡ Found m → node_at n w s ≡ Found m
+    go : (t : Bool) → cond t (node_at n w s) None ≡ Some m → node_at n w s ≡ Some m
     go true q = q
     go false q =
         let z : ◌≡◌ {A = ℕ} 0 1 = cc in
         absurd (omega arith)
 
 -- what was loaded fits
-pub loaded-fits : (n : ℕ) (w : List ℕ) (s : ℕ) (m : Node) → loaded_at n w s ≡ Found m → NodeFits m
+pub loaded-fits : (n : ℕ) (w : List ℕ) (s : ℕ) (m : Node) → loaded_at n w s ≡ Some m → NodeFits m
 loaded-fits n w s m e = node_at-fits n w s m (loaded-node n w s m e)
 
 no-block : (r : Range) → (r.start ≡ 0) × (r.len ≡ 0) → block_of r ≡ block 0 0
@@ -98,9 +96,9 @@ node-unused w m f e = go w m.«data» refl e
     go attributes x q e = no-element attributes m.«data» e
     go namespaces x q e = no-element namespaces m.«data» e
 
-loaded-unused : (w : Which) (l : Loaded) → ((m : Node) → l ≡ Found m → NodeFits m) → (k : Kind ℕ (Option ℕ)) → kind_loaded l ≡ some k → has_range w k ≡ false → range_loaded w l ≡ block 0 0
-loaded-unused w NoNode f k e h = refl
-loaded-unused w (Found m) f k e h =
+loaded-unused : (w : Which) (l : Option Node) → ((m : Node) → l ≡ Some m → NodeFits m) → (k : Kind ℕ (Option ℕ)) → kind_loaded l ≡ Some k → has_range w k ≡ false → range_loaded w l ≡ block 0 0
+loaded-unused w None f k e h = refl
+loaded-unused w (Some m) f k e h =
     let q : kind_of m.«data» ≡ k = cc in
     node-unused w m (f m refl) (rw (← q) at h)
 
@@ -113,7 +111,7 @@ module _ (p : Pool) (names : List (Option Name)) (lengths : Bool) (d : Document)
   abbrev w : List ℕ
   w = slots_part d mem
 
-  range-unused : (a : Which) (i : ℕ) (k : Kind ℕ (Option ℕ)) → get_or (decode_with p names lengths d mem).kinds i none ≡ some k → has_range a k ≡ false
+  range-unused : (a : Which) (i : ℕ) (k : Kind ℕ (Option ℕ)) → get_or (decode_with p names lengths d mem).kinds i None ≡ Some k → has_range a k ≡ false
       → range_in (decode_with p names lengths d mem) a i ≡ block 0 0
   range-unused a i k e h = go (dec_lt i (slots_made d))
     where

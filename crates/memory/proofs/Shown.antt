@@ -1,7 +1,7 @@
 -- Texts and names of the decoded document: what is shown, in every memory; and where the lengths add up, the pool and the table that the words hold.
 -- Assumes nothing.
+use Rattle.std.specs.Prelude.{Option, None, Some}
 use mathlib.Core.Path.{◌≡◌, sym, ap, ◌∙◌}
-use mathlib.Core.Option.{Option, none, some}
 use mathlib.Core.List.{List, [], reverse}
 use Prim.Native.Nat.{ℕ, ◌≤◌, ◌<◌, min}
 use native.Mathlib.Omega.{arith}
@@ -40,13 +40,13 @@ module _ (d : Document) (mem : List ℕ) where
   name-shown i = go (dec_lt i (min d.counts.names d.limits.names))
     where
       go : Dec (i < min d.counts.names d.limits.names) → name_at (names_in d mem) i ≡ shown i
-      go (yes b) = get_or-tabulate shown (min d.counts.names d.limits.names) i none b
+      go (yes b) = get_or-tabulate shown (min d.counts.names d.limits.names) i None b
       go (no b) =
-          get_or-eq_default (names_in d mem) none {n = i} (omega (arith, names-shown))
+          get_or-eq_default (names_in d mem) None {n = i} (omega (arith, names-shown))
           ∙ sym (shown-none (name_limits d) (name_counts d) (names_part d mem) i (there-number (name_limits d) (name_counts d) (names_part d mem) i (omega arith)))
 
   -- ---- and its texts
-  pub text-shown : (t : ℕ) → text_at (pool_in d mem) (some t) ≡ text_shown (text_limits d) (text_counts d) t (texts_part d mem)
+  pub text-shown : (t : ℕ) → text_at (pool_in d mem) (Some t) ≡ text_shown (text_limits d) (text_counts d) t (texts_part d mem)
   text-shown t = go (dec_lt t k)
     where
       k : ℕ
@@ -61,7 +61,7 @@ module _ (d : Document) (mem : List ℕ) where
   -- ---- where counts and lengths are right, they are the pool and the table that the words hold
   pub names-held : TableHeld (name_limits d) (name_counts d) (names_part d mem) → names_in d mem ≡ table_of (name_limits d) (name_counts d) (names_part d mem)
   names-held h =
-      ext_get_or none (names_in d mem) (table_of (name_limits d) (name_counts d) (names_part d mem))
+      ext_get_or None (names_in d mem) (table_of (name_limits d) (name_counts d) (names_part d mem))
       (names-shown ∙ min-eq_left h.names ∙ sym (table-names (name_limits d) (name_counts d) (names_part d mem) h))
       (λ i b. name-shown i ∙ shown-name (name_limits d) (name_counts d) (names_part d mem) h i)
 

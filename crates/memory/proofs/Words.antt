@@ -1,8 +1,10 @@
 -- The words of a live slot's record, and what the document has there.
 -- Assumes nothing.
+use Rattle.words.specs.declared.TextSlot.{TextSlot}
+use Rattle.records.specs.declared.NodeId.{NodeId}
+use Rattle.std.specs.Prelude.{Option, None, Some}
 use mathlib.Core.Path.{◌≡◌, refl, sym, ap, ◌∙◌}
 use mathlib.Core.Bool.{Bool, true, false, cond, false≢true}
-use mathlib.Core.Option.{Option}
 use mathlib.Core.List.{List}
 use Prim.Native.Nat.{ℕ, ◌+◌, ◌-◌, ◌*◌, ◌<◌, ◌≤◌}
 use native.Mathlib.Omega.{arith}
@@ -16,16 +18,10 @@ use Rattle.records.specs.Records.{chars_word, kind_word, name_word, first_text, 
 use Rattle.slots.specs.Regions.{record_start, generation_at, record_at, node_at}
 use Rattle.slots.proofs.Regions.{record_at-node_at}
 use Rattle.records.proofs.Decoding.{Narrow, narrow}
-use Rattle.records.specs.declared.Chars.{Chars}
-use Rattle.records.specs.declared.Chars.TheVariants.{Empty, Expanded}
-use Rattle.records.specs.declared.Parent.{Parent}
-use Rattle.records.specs.declared.Parent.TheVariants.{None, Of}
 use Rattle.records.specs.declared.NodeData.{NodeData}
 use Rattle.records.specs.declared.NodeData.TheVariants as given
 use Rattle.records.specs.declared.Node.{Node}
 use Rattle.records.specs.declared.NodeRecord.{NodeRecord}
-use Rattle.records.specs.declared.Loaded.{Loaded}
-use Rattle.records.specs.declared.Loaded.TheVariants.{Found, NoNode}
 use Rattle.model.specs.Kinds.{Kind, root, element, attribute, text, comment, namespace, instruction, Which, children, attributes, namespaces, is_element}
 use Rattle.model.specs.Doc.{Doc, is_none, live_slot, kind_in, parent_in, range_in}
 use Rattle.layout.specs.declared.Document.{Document}
@@ -71,13 +67,13 @@ second-slot (given.Comment v) = refl
 second-slot (given.Namespace p u) = refl
 second-slot (given.ProcessingInstruction t c) = refl
 
-word-slot : (c : Chars) → slot_of (chars_of (chars_word c)) ≡ slot_of c
-word-slot Empty = refl
-word-slot (Expanded t) = rw (ne_eqb (t.0 + 1) 0 (omega arith), add-sub_cancel t.0 1)
+word-slot : (c : Option TextSlot) → slot_of (chars_of (chars_word c)) ≡ slot_of c
+word-slot None = refl
+word-slot (Some t) = rw (ne_eqb (t.0 + 1) 0 (omega arith), add-sub_cancel t.0 1)
 
-word-handle : (p : Parent) → handle_of (parent_of (parent_word p) (parent_generation p)) ≡ handle_of p
+word-handle : (p : Option NodeId) → handle_of (parent_of (parent_word p) (parent_generation p)) ≡ handle_of p
 word-handle None = refl
-word-handle (Of h) = rw (ne_eqb (h.index + 1) 0 (omega arith), add-sub_cancel h.index 1)
+word-handle (Some h) = rw (ne_eqb (h.index + 1) 0 (omega arith), add-sub_cancel h.index 1)
 
 module _ (d : Document) (mem : List ℕ) where
   abbrev n : ℕ
@@ -109,15 +105,15 @@ module _ (d : Document) (mem : List ℕ) where
 
   record Held (s : ℕ) (m : Node) : Type 0 where
     pub slot-made : s < slots_made d
-    pub found : loaded_at n w s ≡ Found m
+    pub found : loaded_at n w s ≡ Some m
     pub words : record_at n w s ≡ record_of m
     pub node : is_node (record_at n w s) ≡ true
 
-  node-is : (r : NodeRecord) (m : Node) → node_of r ≡ Found m → is_node r ≡ true
+  node-is : (r : NodeRecord) (m : Node) → node_of r ≡ Some m → is_node r ≡ true
   unfolding node_of
   node-is r m e = go (is_node r) e
     where
-      go : (t : Bool) → cond t (Found (found_node r)) NoNode ≡ Found m → t ≡ true
+      go : (t : Bool) → cond t (Some (found_node r)) None ≡ Some m → t ≡ true
       go true q = refl
       go false q =
           let z : ◌≡◌ {A = ℕ} 0 1 = cc in
@@ -127,14 +123,14 @@ module _ (d : Document) (mem : List ℕ) where
   unfolding node_at
   by-node P s l f = go (loaded_at n w s) refl
     where
-      in-fields : (m : Node) (t : Bool) → cond t (node_at n w s) NoNode ≡ Found m → node_at n w s ≡ Found m
+      in-fields : (m : Node) (t : Bool) → cond t (node_at n w s) None ≡ Some m → node_at n w s ≡ Some m
       in-fields m true q = q
       in-fields m false q =
           let z : ◌≡◌ {A = ℕ} 0 1 = cc in
           absurd (omega arith)
 
-      go : (x : Loaded) → loaded_at n w s ≡ x → P
-      go (Found m) e =
+      go : (x : Option Node) → loaded_at n w s ≡ x → P
+      go (Some m) e =
           let q = in-fields m (ltb (generation_at n w s) 4294967296) e in
           f m (record {
             slot-made = columns.live_made (pool_in d mem) (names_in d mem) (lengths_add d mem) d mem s l;
@@ -142,7 +138,7 @@ module _ (d : Document) (mem : List ℕ) where
             words = record_at-node_at n w s m q;
             node = node-is (record_at n w s) m q;
           })
-      go NoNode e = absurd (false≢true (sym (columns.live-none (pool_in d mem) (names_in d mem) (lengths_add d mem) d mem s (columns.live_made (pool_in d mem) (names_in d mem) (lengths_add d mem) d mem s l) e) ∙ l))
+      go None e = absurd (false≢true (sym (columns.live-none (pool_in d mem) (names_in d mem) (lengths_add d mem) d mem s (columns.live_made (pool_in d mem) (names_in d mem) (lengths_add d mem) d mem s l) e) ∙ l))
 
   module _ (s : ℕ) (l : live_slot (decode d mem) s ≡ true) where
     pub live-below : s < d.limits.nodes
@@ -215,7 +211,7 @@ module _ (d : Document) (mem : List ℕ) where
     pub parent-absent : (w : ℕ) → w ≡ record_word d mem s 4 → eqb w 0 ≡ is_none (parent_in (decode d mem) s)
     parent-absent w e = ap (λ (x : ℕ). eqb x 0) e ∙ go (eqb (record_word d mem s 4) 0) ∙ ap is_none parent-word
       where
-        go : (t : Bool) → t ≡ is_none (handle_of (cond t None (Of (record { index = record_word d mem s 4 - 1; generation = record_word d mem s 5 }))))
+        go : (t : Bool) → t ≡ is_none (handle_of (cond t None (Some (record { index = record_word d mem s 4 - 1; generation = record_word d mem s 5 }))))
         go true = refl
         go false = refl
 

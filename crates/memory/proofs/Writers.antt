@@ -1,5 +1,7 @@
 -- What the writing steps cite, over plain values.
 -- Assumes nothing.
+use Rattle.records.specs.declared.NodeId.{NodeId}
+use Rattle.std.specs.Prelude.{Option}
 use mathlib.Core.Path.{◌≡◌, ap, ◌∙◌}
 use mathlib.Core.Bool.{true}
 use mathlib.Core.List.{List, ◌++◌}
@@ -11,7 +13,6 @@ use Rattle.words.proofs.Parts.{put_back}
 use Rattle.records.specs.Records.{span_of, record_of}
 use Rattle.slots.specs.Regions.{put_record}
 use Rattle.records.specs.declared.Node.{Node}
-use Rattle.records.specs.declared.Parent.{Parent}
 use Rattle.records.specs.declared.Range.{Range}
 use Rattle.records.specs.declared.Span.{Span}
 use Rattle.records.specs.declared.NodeRecord.{NodeRecord}
@@ -47,7 +48,7 @@ module _ (d : Document) (mem : List ℕ) (s : ℕ) where
   unfolding put_range
   range-stored a c w r t mem' ew et er q = q ∙ ap (put_words d mem s) (er ∙ rw (ew, et))
 
-  pub parent-stored : (p : Parent) (w r : NodeRecord) (mem' : List ℕ) → w ≡ words_at d mem s → r ≡ with_parent w p
+  pub parent-stored : (p : Option NodeId) (w r : NodeRecord) (mem' : List ℕ) → w ≡ words_at d mem s → r ≡ with_parent w p
       → mem' ≡ put_words d mem s r → mem' ≡ put_parent d mem s p
   unfolding put_parent
   parent-stored p w r mem' ew er q = q ∙ ap (put_words d mem s) (er ∙ ap (λ (x : NodeRecord). with_parent x p) ew)

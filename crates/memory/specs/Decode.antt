@@ -1,7 +1,7 @@
 -- What the words of lent memory mean: the document of a record and a buffer. It is total: any words and any counts are some document, and a count above its limit
 -- reads as the limit.
-use Rattle.std.specs.Prelude.{Bool, ◌&&◌, cond, List, reverse, ℕ, ◌+◌, min, take, leb, ltb}
-use Rattle.std.proofs.Math.Option.{Option, none, some}
+use Rattle.words.specs.declared.TextSlot.{TextSlot}
+use Rattle.std.specs.Prelude.{Bool, ◌&&◌, cond, List, reverse, ℕ, ◌+◌, min, take, leb, ltb, Option, None, Some}
 use Rattle.words.specs.Parts.{part}
 use Rattle.words.specs.Lists.{tabulate}
 use Rattle.words.specs.Ends.{ends_reach}
@@ -10,16 +10,10 @@ use Rattle.records.specs.Handles.{word_of}
 use Rattle.slots.specs.Regions.{slots_words, generation_at, free_at, node_at, order_at}
 use Rattle.slots.specs.Slots.{resolved}
 use Rattle.records.specs.declared.NodeId.{NodeId}
-use Rattle.records.specs.declared.Chars.{Chars}
-use Rattle.records.specs.declared.Chars.TheVariants.{Empty, Expanded}
-use Rattle.records.specs.declared.Parent.{Parent}
-use Rattle.records.specs.declared.Parent.TheVariants as parent
 use Rattle.records.specs.declared.NodeData.{NodeData}
 use Rattle.records.specs.declared.NodeData.TheVariants as given
 use Rattle.records.specs.declared.Range.{Range}
 use Rattle.records.specs.declared.Node.{Node}
-use Rattle.records.specs.declared.Loaded.{Loaded}
-use Rattle.records.specs.declared.Loaded.TheVariants.{Found, NoNode}
 use Rattle.model.specs.Kinds.{Kind, root, element, attribute, text, comment, namespace, instruction, Which, children, attributes, namespaces}
 use Rattle.texts.specs.Pool.{Pool}
 use Rattle.texts.specs.Words.{text_shown}
@@ -37,9 +31,9 @@ use Rattle.layout.specs.Layout.{limits_of, slots_at, arena_words, arena_at, text
 
 -- ---- a node
 
-abbrev pub slot_of : Chars → Option ℕ
-slot_of Empty = none
-slot_of (Expanded t) = some t.0
+abbrev pub slot_of : Option TextSlot → Option ℕ
+slot_of None = None
+slot_of (Some t) = Some t.0
 
 abbrev pub kind_of : NodeData → Kind ℕ (Option ℕ)
 kind_of given.Root = root
@@ -50,9 +44,9 @@ kind_of (given.Comment v) = comment (slot_of v)
 kind_of (given.Namespace p u) = namespace (slot_of p) (slot_of u)
 kind_of (given.ProcessingInstruction t c) = instruction (slot_of t) (slot_of c)
 
-abbrev pub handle_of : Parent → Option ℕ
-handle_of parent.None = none
-handle_of (parent.Of h) = some (word_of h)
+abbrev pub handle_of : Option NodeId → Option ℕ
+handle_of None = None
+handle_of (Some h) = Some (word_of h)
 
 abbrev pub block_of : Range → Block
 block_of r = block r.start r.len
@@ -73,21 +67,21 @@ range_of children n = block_of n.children
 range_of attributes n = element_range attributes n.«data»
 range_of namespaces n = element_range namespaces n.«data»
 
-abbrev pub kind_loaded : Loaded → Option (Kind ℕ (Option ℕ))
-kind_loaded (Found n) = some (kind_of n.«data»)
-kind_loaded NoNode = none
+abbrev pub kind_loaded : Option Node → Option (Kind ℕ (Option ℕ))
+kind_loaded (Some n) = Some (kind_of n.«data»)
+kind_loaded None = None
 
-abbrev pub parent_loaded : Loaded → Option ℕ
-parent_loaded (Found n) = handle_of n.parent
-parent_loaded NoNode = none
+abbrev pub parent_loaded : Option Node → Option ℕ
+parent_loaded (Some n) = handle_of n.parent
+parent_loaded None = None
 
-abbrev pub range_loaded : Which → Loaded → Block
-range_loaded w (Found n) = range_of w n
-range_loaded w NoNode = block 0 0
+abbrev pub range_loaded : Which → Option Node → Block
+range_loaded w (Some n) = range_of w n
+range_loaded w None = block 0 0
 
 -- a slot whose generation is not of 32 bits is no node
-abbrev pub loaded_at : ℕ → List ℕ → ℕ → Loaded
-loaded_at n w s = cond (ltb (generation_at n w s) 4294967296) (node_at n w s) NoNode
+abbrev pub loaded_at : ℕ → List ℕ → ℕ → Option Node
+loaded_at n w s = cond (ltb (generation_at n w s) 4294967296) (node_at n w s) None
 
 -- ---- the counts
 
@@ -122,7 +116,7 @@ arena_used d w = min (used_of d.counts w) ((limits_of d.limits).entries w)
 abbrev pub arena_in : Document → Which → List ℕ → Arena
 arena_in d w mem = arena_of ((limits_of d.limits).entries w) (arena_used d w) (arena_part d w mem)
 
-abbrev pub resolved_in : Document → List ℕ → NodeId → Loaded
+abbrev pub resolved_in : Document → List ℕ → NodeId → Option Node
 resolved_in d mem h = resolved d.limits.nodes (slots_part d mem) (slots_made d) h
 
 -- the document but for its texts and names, which the layers of the pool and of the table read: of the words of the slots and of each arena

@@ -6,3 +6,4 @@ pub mod Entries
 pub mod Undamaged
 pub mod Step
 pub mod Performed
+pub mod View

@@ -1,6 +1,5 @@
 -- The bytes of texts and names that the words show, also in damaged memory.
-use Rattle.std.proofs.Math.Option.{Option, none, some}
-use Rattle.std.specs.Prelude.{List, [], ℕ}
+use Rattle.std.specs.Prelude.{List, [], ℕ, Option, None, Some}
 use Rattle.texts.specs.Words.{text_shown}
 use Rattle.names.specs.Words.{part_shown}
 use Rattle.layout.specs.declared.Document.{Document}
@@ -8,8 +7,8 @@ use Rattle.memory.specs.Decode.{text_limits, text_counts, texts_part, name_limit
 
 -- the bytes of a text field; "an empty text .. for a number outside its table or bytes outside their pool"
 abbrev pub text_in : Document → List ℕ → Option ℕ → List ℕ
-text_in d mem none = []
-text_in d mem (some s) = text_shown (text_limits d) (text_counts d) s (texts_part d mem)
+text_in d mem None = []
+text_in d mem (Some s) = text_shown (text_limits d) (text_counts d) s (texts_part d mem)
 
 -- part 0 of a name is its namespace, part 1 its local part
 abbrev pub name_part : Document → List ℕ → ℕ → ℕ → List ℕ

@@ -1,6 +1,5 @@
 -- Single words of a slot's record, and what those of a live node say.
-use Rattle.std.proofs.Math.Option.{Option, none}
-use Rattle.std.specs.Prelude.{List, ℕ, get_or}
+use Rattle.std.specs.Prelude.{List, ℕ, get_or, Option, None}
 use Rattle.words.specs.Parts.{part}
 use Rattle.slots.specs.Regions.{record_start}
 use Rattle.model.specs.Kinds.{Kind, root, element, attribute, text, comment, namespace, instruction, Which, children, attributes, namespaces}
@@ -37,8 +36,8 @@ name_number (namespace p u) = 0
 name_number (instruction t d) = 0
 
 abbrev pub first_slot : Kind ℕ (Option ℕ) → Option ℕ
-first_slot root = none
-first_slot (element n) = none
+first_slot root = None
+first_slot (element n) = None
 first_slot (attribute n v) = v
 first_slot (text t) = t
 first_slot (comment t) = t
@@ -46,10 +45,10 @@ first_slot (namespace p u) = p
 first_slot (instruction t d) = t
 
 abbrev pub second_slot : Kind ℕ (Option ℕ) → Option ℕ
-second_slot root = none
-second_slot (element n) = none
-second_slot (attribute n v) = none
-second_slot (text t) = none
-second_slot (comment t) = none
+second_slot root = None
+second_slot (element n) = None
+second_slot (attribute n v) = None
+second_slot (text t) = None
+second_slot (comment t) = None
 second_slot (namespace p u) = u
 second_slot (instruction t d) = d

@@ -1,13 +1,12 @@
 -- What the writing steps leave in the lent buffer, and the change of the document that each of them is.
-use Rattle.std.specs.Prelude.{◌≡◌, List, ℕ, ◌+◌, length, set}
-use Rattle.std.proofs.Math.Option.{Option}
+use Rattle.records.specs.declared.NodeId.{NodeId}
+use Rattle.std.specs.Prelude.{◌≡◌, List, ℕ, ◌+◌, length, set, Option}
 use Rattle.words.specs.Parts.{put}
 use Rattle.blocks.specs.Arena.{Block}
 use Rattle.blocks.specs.Compact.{BlockCopied}
 use Rattle.records.specs.Records.{span_of, record_of}
 use Rattle.records.specs.Ranges.{with_children, with_attributes, with_namespaces, with_parent}
 use Rattle.slots.specs.Regions.{record_at, put_record}
-use Rattle.records.specs.declared.Parent.{Parent}
 use Rattle.records.specs.declared.Range.{Range}
 use Rattle.records.specs.declared.Node.{Node}
 use Rattle.records.specs.declared.Span.{Span}
@@ -64,7 +63,7 @@ put_node d mem s m = put_words d mem s (record_of m)
 unfoldable pub put_range : Document → List ℕ → ℕ → Which → Range → List ℕ
 put_range d mem s w c = put_words d mem s (with_range w (words_at d mem s) (span_of c))
 
-unfoldable pub put_parent : Document → List ℕ → ℕ → Parent → List ℕ
+unfoldable pub put_parent : Document → List ℕ → ℕ → Option NodeId → List ℕ
 put_parent d mem s p = put_words d mem s (with_parent (words_at d mem s) p)
 
 -- ---- the changes of the document

@@ -7,8 +7,9 @@ ghost use Rattle.memory.specs.Decode.{block_of, handle_of, decode};
 ghost use Rattle.memory.specs.Words.{record_word, block_at};
 
 use layout::{Arena, Document};
+use records::kind::ELEMENT;
 use records::named::{ATTRIBUTES, CHILDREN, GENERATION, KIND, NAMESPACES, PARENT, RECORD_WORDS};
-use records::{Parent, Range};
+use records::{NodeId, Range};
 use slots::region::RECORDS_AT;
 use words::NodeSlot;
 
@@ -17,10 +18,7 @@ pub fn record_word(d: Document, mem: &[u64], slot: NodeSlot, word: usize) -> u64
     requires { (memory_ok d (length mem.now) ≡ true) × (slot.0 < d.limits.nodes) × (word < 12) }
     ensures { result ≡ record_word d mem.now slot.0 word }
 {
-    let l = d.limits;
-    let n = l.nodes;
-    let s = slot.0;
-    mem[n * RECORDS_AT + s as usize * RECORD_WORDS + word]
+    mem[d.limits.nodes * RECORDS_AT + slot.0 as usize * RECORD_WORDS + word]
 }
 
 // Where the block in an arena stands in a record.
@@ -52,7 +50,7 @@ pub fn is_element(d: Document, mem: &[u64], slot: NodeSlot) -> bool
     requires { (memory_ok d (length mem.now) ≡ true) × (live_slot (decode d mem.now) slot.0 ≡ true) }
     ensures { result ≡ is_element (kind_in (decode d mem.now) slot.0) }
 {
-    record_word(d, mem, slot, KIND) == 1
+    record_word(d, mem, slot, KIND) == ELEMENT
 }
 
 pub fn has_no_parent(d: Document, mem: &[u64], slot: NodeSlot) -> bool
@@ -62,7 +60,7 @@ pub fn has_no_parent(d: Document, mem: &[u64], slot: NodeSlot) -> bool
     record_word(d, mem, slot, PARENT) == 0
 }
 
-pub fn live_parent(d: Document, mem: &[u64], slot: NodeSlot) -> Parent
+pub fn live_parent(d: Document, mem: &[u64], slot: NodeSlot) -> Option<NodeId>
     requires { (memory_ok d (length mem.now) ≡ true) × (live_slot (decode d mem.now) slot.0 ≡ true) }
     ensures { handle_of result ≡ parent_in (decode d mem.now) slot.0 }
 {

@@ -6,4 +6,5 @@ pub mod fields;
 pub mod parts;
 pub mod read;
 pub mod stored;
+pub mod view;
 pub mod write;

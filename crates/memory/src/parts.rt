@@ -14,9 +14,9 @@ ghost use Rattle.layout.specs.Layout.{which_of, entries_of, memory_ok};
 ghost use Rattle.memory.specs.Decode.{block_of, slots_part, slots_made, slots_free, arena_part, arena_in, text_limits, text_counts, texts_part, name_limits, name_counts, names_part};
 ghost use Rattle.memory.specs.Writing.{put_slots, put_arena, put_texts, put_names, ArenaCopied};
 
-use crate::read::{free, made};
+use crate::read::{block_in, free, made};
 use crate::stored::{name_counts, name_limits, text_counts, text_limits};
-use layout::{Arena, Document, arena_at, arena_limit, names_at, texts_at};
+use layout::{Arena, Document, arena_at, arena_limit, names_range, texts_range};
 use names::interning::Interned;
 use records::Range;
 use slots::region::{ORDERS_AT, SLOT_WORDS};
@@ -33,8 +33,7 @@ pub fn take_slot(d: Document, mem: &mut [u64]) -> Taken
     ensures value { result ≡ taken d.limits.nodes (slots_part d mem.old) (slots_made d) (slots_free d) }
     ensures mem_after { mem.new ≡ put_slots (taken_words d.limits.nodes (slots_part d mem.old) (slots_made d) (slots_free d)) mem.old }
 {
-    let l = d.limits;
-    let n = l.nodes;
+    let n = d.limits.nodes;
     let slots = made(d);
     let stack = free(d);
     let end = SLOT_WORDS * n;
@@ -47,11 +46,9 @@ pub fn free_slot(d: Document, mem: &mut [u64], slot: NodeSlot) -> usize
     ensures value { result ≡ d.counts.free + 1 }
     ensures mem_after { mem.new ≡ put_slots (freed_words d.limits.nodes (slots_part d mem.old) d.counts.free slot.0) mem.old }
 {
-    let l = d.limits;
-    let c = d.counts;
-    let n = l.nodes;
+    let n = d.limits.nodes;
     let end = SLOT_WORDS * n;
-    slots::slot::free_slot(&mut mem[0..end], n, c.free, slot)
+    slots::slot::free_slot(&mut mem[0..end], n, d.counts.free, slot)
 }
 
 // Another order word of a slot.
@@ -59,8 +56,7 @@ pub fn put_order(d: Document, mem: &mut [u64], slot: NodeSlot, key: u64)
     requires { (memory_ok d (length mem.old) ≡ true) × (slot.0 < d.limits.nodes) }
     ensures { mem.new ≡ put_slots (put_order d.limits.nodes (slots_part d mem.old) slot.0 key) mem.old }
 {
-    let l = d.limits;
-    let n = l.nodes;
+    let n = d.limits.nodes;
     let end = SLOT_WORDS * n;
     slots::region::put_order(&mut mem[0..end], n, slot, key);
 }
@@ -70,8 +66,7 @@ pub fn clear_order(d: Document, mem: &mut [u64])
     requires { memory_ok d (length mem.old) ≡ true }
     ensures { mem.new ≡ put_slots (clear_order d.limits.nodes (slots_part d mem.old) (slots_made d)) mem.old }
 {
-    let l = d.limits;
-    let n = l.nodes;
+    let n = d.limits.nodes;
     let end = SLOT_WORDS * n;
     slots::region::clear_order(&mut mem[0..end], n, made(d));
 }
@@ -81,8 +76,7 @@ pub fn order_words(d: Document, mem: &[u64]) -> &[u64]
     requires { memory_ok d (length mem.now) ≡ true }
     ensures { result.now ≡ part (order_start d.limits.nodes) (slots_made d) mem.now }
 {
-    let l = d.limits;
-    let start = l.nodes * ORDERS_AT;
+    let start = d.limits.nodes * ORDERS_AT;
     let end = start + made(d);
     &mem[start..end]
 }
@@ -118,13 +112,7 @@ pub fn copy_block(d: Document, mem: &mut [u64], arena: Arena, used: usize, block
     let limit = arena_limit(d.limits, arena);
     let start = arena_at(d.limits, arena);
     let end = start + (limit + limit);
-    blocks::compact::copy_block(
-        &mut mem[start..end],
-        limit,
-        used,
-        block.start as usize,
-        block.len as usize,
-    );
+    blocks::compact::copy_block(&mut mem[start..end], limit, used, block_in(block));
 }
 
 // The copies in an arena, so many entries, replace the ids.
@@ -146,12 +134,10 @@ pub fn write_text(d: Document, mem: &mut [u64], text: &[u8]) -> Stored
     ensures stored_to { StoredTo (text_limits d) (text_counts d) (texts_part d mem.old) (texts_part d mem.new) text.now result }
     ensures mem_after { mem.new ≡ put_texts d (texts_part d mem.new) mem.old }
 {
-    let l = d.limits;
     let limits = text_limits(d);
     let counts = text_counts(d);
-    let start = texts_at(l);
-    let end = start + (2 * l.texts + l.textbytes);
-    texts::storing::store_text(&mut mem[start..end], limits, counts, text)
+    let words = texts_range(d.limits);
+    texts::storing::store_text(&mut mem[words], limits, counts, text)
 }
 
 // A text in place of another.
@@ -160,12 +146,10 @@ pub fn write_over(d: Document, mem: &mut [u64], slot: TextSlot, text: &[u8]) -> 
     ensures replaced_to { ReplacedTo (text_limits d) (text_counts d) (texts_part d mem.old) (texts_part d mem.new) slot.0 text.now result }
     ensures mem_after { mem.new ≡ put_texts d (texts_part d mem.new) mem.old }
 {
-    let l = d.limits;
     let limits = text_limits(d);
     let counts = text_counts(d);
-    let start = texts_at(l);
-    let end = start + (2 * l.texts + l.textbytes);
-    texts::storing::replace_text(&mut mem[start..end], limits, counts, slot, text)
+    let words = texts_range(d.limits);
+    texts::storing::replace_text(&mut mem[words], limits, counts, slot, text)
 }
 
 // A text slot is pushed on the free text list.
@@ -174,12 +158,10 @@ pub fn push_text(d: Document, mem: &mut [u64], slot: TextSlot) -> TextCounts
     ensures pushed_to { PushedTo (text_limits d) (text_counts d) (texts_part d mem.old) (texts_part d mem.new) slot.0 result }
     ensures mem_after { mem.new ≡ put_texts d (texts_part d mem.new) mem.old }
 {
-    let l = d.limits;
     let limits = text_limits(d);
     let counts = text_counts(d);
-    let start = texts_at(l);
-    let end = start + (2 * l.texts + l.textbytes);
-    releasing::release::push_slot(&mut mem[start..end], limits, counts, slot)
+    let words = texts_range(d.limits);
+    releasing::release::push_slot(&mut mem[words], limits, counts, slot)
 }
 
 // The bytes of every text on the free text list are given back. Scratch holds the marks, and anything after.
@@ -188,14 +170,11 @@ pub fn give_back(d: Document, mem: &mut [u64], scratch: &mut [u64]) -> TextCount
     ensures reclaimed_to { ReclaimedTo (text_limits d) (text_counts d) (texts_part d mem.old) (texts_part d mem.new) result }
     ensures mem_after { mem.new ≡ put_texts d (texts_part d mem.new) mem.old }
 {
-    let l = d.limits;
-    let c = d.counts;
     let limits = text_limits(d);
     let counts = text_counts(d);
-    let start = texts_at(l);
-    let end = start + (2 * l.texts + l.textbytes);
-    let marks = c.texts;
-    releasing::release::reclaim(&mut mem[start..end], limits, counts, &mut scratch[0..marks])
+    let words = texts_range(d.limits);
+    let marks = d.counts.texts;
+    releasing::release::reclaim(&mut mem[words], limits, counts, &mut scratch[0..marks])
 }
 
 // ---- the names
@@ -206,10 +185,8 @@ pub fn write_name(d: Document, mem: &mut [u64], namespace: &[u8], local: &[u8]) 
     ensures interned_to { InternedTo (name_limits d) (name_counts d) (names_part d mem.old) (names_part d mem.new) (name namespace.now local.now) result }
     ensures mem_after { mem.new ≡ put_names d (names_part d mem.new) mem.old }
 {
-    let l = d.limits;
     let limits = name_limits(d);
     let counts = name_counts(d);
-    let start = names_at(l);
-    let end = start + (2 * l.names + l.namebytes);
-    names::interning::intern(&mut mem[start..end], limits, counts, namespace, local)
+    let words = names_range(d.limits);
+    names::interning::intern(&mut mem[words], limits, counts, namespace, local)
 }

@@ -7,28 +7,24 @@ ghost use Rattle.model.specs.Doc.{live_slot, resolves};
 ghost use Rattle.layout.specs.Layout.{which_of, limits_of, memory_ok};
 ghost use Rattle.memory.specs.Decode.{block_of, element_range, range_of, slots_part, slots_made, slots_free, arena_used, arena_in, loaded_at, resolved_in, decode};
 
+use blocks::Block;
 use layout::{Arena, Document, arena_at, arena_limit};
-use records::{Loaded, Node, NodeData, NodeId, NodeRecord, Range};
-use slots::OrderKey;
-use slots::region::SLOT_WORDS;
+use records::{Node, NodeData, NodeId, NodeRecord, Range};
+use slots::region::{SLOT_WORDS, Slots};
 use words::NodeSlot;
 
 // The slots made. A count above its limit reads as the limit.
 pub fn made(d: Document) -> usize
     ensures { result ≡ slots_made d }
 {
-    let l = d.limits;
-    let c = d.counts;
-    words::least(c.slots, l.nodes)
+    d.counts.slots.min(d.limits.nodes)
 }
 
 // The length of the free stack.
 pub fn free(d: Document) -> usize
     ensures { result ≡ slots_free d }
 {
-    let l = d.limits;
-    let c = d.counts;
-    words::least(c.free, l.nodes)
+    d.counts.free.min(d.limits.nodes)
 }
 
 // The length of an arena.
@@ -38,9 +34,22 @@ pub fn arena_used(d: Document, arena: Arena) -> usize
     let limit = arena_limit(d.limits, arena);
     let c = d.counts;
     match arena {
-        Arena::Children => words::least(c.children, limit),
-        Arena::Attributes => words::least(c.attributes, limit),
-        Arena::Namespaces => words::least(c.namespaces, limit),
+        Arena::Children => c.children.min(limit),
+        Arena::Attributes => c.attributes.min(limit),
+        Arena::Namespaces => c.namespaces.min(limit),
+    }
+}
+
+// The part of the slots.
+pub fn slots(d: Document, mem: &[u64]) -> Slots<'_>
+    requires { memory_ok d (length mem.now) ≡ true }
+    ensures { (result.n ≡ d.limits.nodes) × (result.words.now ≡ slots_part d mem.now) }
+{
+    let n = d.limits.nodes;
+    let end = SLOT_WORDS * n;
+    Slots {
+        words: &mem[0..end],
+        n,
     }
 }
 
@@ -48,10 +57,7 @@ pub fn generation(d: Document, mem: &[u64], slot: NodeSlot) -> u64
     requires { (memory_ok d (length mem.now) ≡ true) × (slot.0 < d.limits.nodes) }
     ensures { result ≡ generation_at d.limits.nodes (slots_part d mem.now) slot.0 }
 {
-    let l = d.limits;
-    let n = l.nodes;
-    let end = SLOT_WORDS * n;
-    slots::region::generation_at(&mem[0..end], n, slot)
+    slots(d, mem).generation(slot)
 }
 
 // The twelve words of a slot.
@@ -59,33 +65,27 @@ pub fn record_words(d: Document, mem: &[u64], slot: NodeSlot) -> NodeRecord
     requires { (memory_ok d (length mem.now) ≡ true) × (slot.0 < d.limits.nodes) }
     ensures { result ≡ record_at d.limits.nodes (slots_part d mem.now) slot.0 }
 {
-    let l = d.limits;
-    let n = l.nodes;
-    let end = SLOT_WORDS * n;
-    slots::region::load_record(&mem[0..end], n, slot)
+    slots(d, mem).record(slot)
 }
 
 // The node in a slot, whether it is live or left there by one that was freed: none where its words or its generation are out of their fields.
-pub fn load(d: Document, mem: &[u64], slot: NodeSlot) -> Loaded
+pub fn load(d: Document, mem: &[u64], slot: NodeSlot) -> Option<Node>
     requires { (memory_ok d (length mem.now) ≡ true) × (slot.0 < d.limits.nodes) }
     ensures { result ≡ loaded_at d.limits.nodes (slots_part d mem.now) slot.0 }
 {
     if generation(d, mem, slot) < 4294967296 {
         records::decode::node_of(record_words(d, mem, slot))
     } else {
-        Loaded::NoNode
+        None
     }
 }
 
 // The node that a handle resolves to, for every handle.
-pub fn resolve(d: Document, mem: &[u64], id: NodeId) -> Loaded
+pub fn resolve(d: Document, mem: &[u64], id: NodeId) -> Option<Node>
     requires { memory_ok d (length mem.now) ≡ true }
     ensures { result ≡ resolved_in d mem.now id }
 {
-    let l = d.limits;
-    let n = l.nodes;
-    let end = SLOT_WORDS * n;
-    slots::slot::resolve(&mem[0..end], n, made(d), id)
+    slots(d, mem).resolve(made(d), id)
 }
 
 // Whether a slot holds a live node: its generation is even and of 32 bits, and its words are a node.
@@ -108,11 +108,10 @@ pub fn resolves(d: Document, mem: &[u64], id: NodeId) -> bool
     requires { memory_ok d (length mem.now) ≡ true }
     ensures { result ≡ resolves (decode d mem.now) (word_of id) }
 {
-    let index = id.index;
-    if index as usize >= made(d) {
+    if id.index as usize >= made(d) {
         return false;
     }
-    let slot = NodeSlot(index);
+    let slot = NodeSlot(id.index);
     if generation(d, mem, slot) != id.generation as u64 {
         return false;
     }
@@ -133,13 +132,8 @@ fn attributes_of(data: NodeData) -> Range
     ensures { block_of result ≡ element_range attributes «data» }
 {
     match data {
-        NodeData::Root => Range { start: 0, len: 0 },
         NodeData::Element { attributes, .. } => attributes,
-        NodeData::Attr { .. } => Range { start: 0, len: 0 },
-        NodeData::Text(_) => Range { start: 0, len: 0 },
-        NodeData::Comment(_) => Range { start: 0, len: 0 },
-        NodeData::Namespace { .. } => Range { start: 0, len: 0 },
-        NodeData::ProcessingInstruction { .. } => Range { start: 0, len: 0 },
+        _ => Range { start: 0, len: 0 },
     }
 }
 
@@ -147,13 +141,18 @@ fn namespaces_of(data: NodeData) -> Range
     ensures { block_of result ≡ element_range namespaces «data» }
 {
     match data {
-        NodeData::Root => Range { start: 0, len: 0 },
         NodeData::Element { namespaces, .. } => namespaces,
-        NodeData::Attr { .. } => Range { start: 0, len: 0 },
-        NodeData::Text(_) => Range { start: 0, len: 0 },
-        NodeData::Comment(_) => Range { start: 0, len: 0 },
-        NodeData::Namespace { .. } => Range { start: 0, len: 0 },
-        NodeData::ProcessingInstruction { .. } => Range { start: 0, len: 0 },
+        _ => Range { start: 0, len: 0 },
+    }
+}
+
+// A range as the block editor counts.
+pub fn block_in(range: Range) -> Block
+    ensures { result ≡ block_of range }
+{
+    Block {
+        start: range.start as usize,
+        len: range.len as usize,
     }
 }
 
@@ -161,21 +160,17 @@ fn namespaces_of(data: NodeData) -> Range
 pub fn range_of(node: Node, arena: Arena) -> Range
     ensures { block_of result ≡ range_of (which_of arena) node }
 {
-    let data = node.data;
     match arena {
         Arena::Children => node.children,
-        Arena::Attributes => attributes_of(data),
-        Arena::Namespaces => namespaces_of(data),
+        Arena::Attributes => attributes_of(node.data),
+        Arena::Namespaces => namespaces_of(node.data),
     }
 }
 
 // A slot's position in document order, as its order word says.
-pub fn order_key(d: Document, mem: &[u64], slot: NodeSlot) -> OrderKey
+pub fn order_key(d: Document, mem: &[u64], slot: NodeSlot) -> Option<u32>
     requires { (memory_ok d (length mem.now) ≡ true) × (slot.0 < d.limits.nodes) }
     ensures { result ≡ key_of (order_at d.limits.nodes (slots_part d mem.now) slot.0) }
 {
-    let l = d.limits;
-    let n = l.nodes;
-    let end = SLOT_WORDS * n;
-    slots::region::order_at(&mem[0..end], n, slot)
+    slots(d, mem).order_key(slot)
 }

@@ -5,7 +5,7 @@ ghost use Rattle.memory.specs.Writing.{put_words, with_range, put_node, put_rang
 
 use crate::read::record_words;
 use layout::{Arena, Document};
-use records::{Node, NodeRecord, Parent, Range, Span};
+use records::{Node, NodeId, NodeRecord, Range, Span};
 use slots::region::SLOT_WORDS;
 use words::NodeSlot;
 
@@ -14,8 +14,7 @@ fn put_words(d: Document, mem: &mut [u64], slot: NodeSlot, r: NodeRecord)
     requires { (memory_ok d (length mem.old) ≡ true) × (slot.0 < d.limits.nodes) }
     ensures { mem.new ≡ put_words d mem.old slot.0 r }
 {
-    let l = d.limits;
-    let n = l.nodes;
+    let n = d.limits.nodes;
     let end = SLOT_WORDS * n;
     slots::region::store_record(&mut mem[0..end], n, slot, r);
 }
@@ -30,13 +29,13 @@ pub fn put_node(d: Document, mem: &mut [u64], slot: NodeSlot, node: Node)
 }
 
 // The node record is lent to the step that patches the range of the arena.
-fn with_range(words: NodeRecord, arena: Arena, range: Span) -> NodeRecord
-    ensures { result ≡ with_range (which_of arena) words range }
+fn patch_range(words: &mut NodeRecord, arena: Arena, range: Span)
+    ensures { words.new ≡ with_range (which_of arena) words.old range }
 {
     match arena {
-        Arena::Children => records::patch::with_children(words, range),
-        Arena::Attributes => records::patch::with_attributes(words, range),
-        Arena::Namespaces => records::patch::with_namespaces(words, range),
+        Arena::Children => records::patch::patch_children(words, range),
+        Arena::Attributes => records::patch::patch_attributes(words, range),
+        Arena::Namespaces => records::patch::patch_namespaces(words, range),
     }
 }
 
@@ -45,13 +44,13 @@ pub fn put_range(d: Document, mem: &mut [u64], slot: NodeSlot, arena: Arena, ran
     requires { (memory_ok d (length mem.old) ≡ true) × (slot.0 < d.limits.nodes) }
     ensures { mem.new ≡ put_range d mem.old slot.0 (which_of arena) range }
 {
-    let words = record_words(d, &mem[..], slot);
-    let patched = with_range(words, arena, records::encode::span_of(range));
-    put_words(d, mem, slot, patched);
+    let mut words = record_words(d, &mem[..], slot);
+    patch_range(&mut words, arena, records::encode::span_of(range));
+    put_words(d, mem, slot, words);
 }
 
 // Another parent of the node in a slot, or none.
-pub fn put_parent(d: Document, mem: &mut [u64], slot: NodeSlot, parent: Parent)
+pub fn put_parent(d: Document, mem: &mut [u64], slot: NodeSlot, parent: Option<NodeId>)
     requires { (memory_ok d (length mem.old) ≡ true) × (slot.0 < d.limits.nodes) }
     ensures { mem.new ≡ put_parent d mem.old slot.0 parent }
 {

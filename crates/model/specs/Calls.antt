@@ -1,7 +1,6 @@
 -- Every call as a function on the document: its answer by 01's numbers and values, and the document after. Tests 4 and 5 come before
 -- these (`memory`); the rest, in the order 1, the Rust's own checks, 14, is here.
-use Rattle.std.specs.Prelude.{Bool, true, false, not, ◌&&◌, cond, List, [], ◌∷◌, ℕ, zero, suc, ◌+◌, length, get_or, take, eqb, ltb}
-use Rattle.std.proofs.Math.Option.{Option, none, some}
+use Rattle.std.specs.Prelude.{Bool, true, false, not, ◌&&◌, cond, List, [], ◌∷◌, ℕ, zero, suc, ◌+◌, length, get_or, take, eqb, ltb, Option, None, Some}
 use Rattle.words.specs.Lists.{find}
 use Rattle.blocks.specs.Arena.{Block, block, has_room}
 use Rattle.records.specs.Handles.{handle_index}
@@ -111,8 +110,8 @@ node_fits d w p = slot_fits d && room_fits d w p
 
 -- the old text is counted off; a text field with a slot keeps it
 abbrev pub replacement_fits : Doc → Option ℕ → List ℕ → Bool
-replacement_fits d none t = text_fits d (slots_for t) 0 (length t)
-replacement_fits d (some s) t = text_fits d 0 (length (bytes_at d (some s))) (length t)
+replacement_fits d None t = text_fits d (slots_for t) 0 (length t)
+replacement_fits d (Some s) t = text_fits d 0 (length (bytes_at d (Some s))) (length t)
 
 abbrev pub full_unless : Bool → ℕ
 full_unless fits = refuse_if (not fits) 14
@@ -134,7 +133,7 @@ with_replaced d h slot t =
     set_kind d h (with_text (kind_at d h) (replaced_slot d.pool slot t)) (replaced d.pool slot t)
 
 abbrev pub replaceable_at : Doc → ℕ → Option ℕ
-replaceable_at d h = or_else none (replaceable (kind_at d h))
+replaceable_at d h = or_else None (replaceable (kind_at d h))
 
 -- `find_attribute`, by equal pairs, and `find_namespace_node`, by equal prefix bytes: the first in the list
 abbrev pub has_name : Doc → Name → ℕ → Bool
@@ -151,9 +150,9 @@ find_namespace d e p = find (has_prefix d p) (list_at d namespaces e)
 
 -- the Root has an element child, other than this one
 abbrev pub other_than : Option ℕ → Option ℕ → Bool
-other_than none except = false
-other_than (some r) none = true
-other_than (some r) (some c) = not (eqb r c)
+other_than None except = false
+other_than (Some r) None = true
+other_than (Some r) (Some c) = not (eqb r c)
 
 abbrev pub root_taken : Doc → Option ℕ → Bool
 root_taken d except = other_than (root_element d) except
@@ -165,7 +164,7 @@ abbrev pub append_element : Doc → ℕ → List ℕ → List ℕ → Out
 append_element d p ns local =
     let n = name ns local in
     guarded
-    (first (check_append_element ns local (view_at d p) (root_taken d none)) (full_unless (name_fits_in d n && node_fits d children p)))
+    (first (check_append_element ns local (view_at d p) (root_taken d None)) (full_unless (name_fits_in d n && node_fits d children p)))
     d
     (appends d p (element (number_of d.names n)) d.pool (interned d.names n))
 
@@ -203,9 +202,9 @@ set_text d h t =
 
 -- an equal pair, or an equal prefix, replaces the text; else a new node
 abbrev pub set_attribute_found : Option ℕ → Doc → ℕ → Name → List ℕ → Out
-set_attribute_found (some a) d e n value =
+set_attribute_found (Some a) d e n value =
     guarded (full_unless (replacement_fits d (replaceable_at d a) value)) d (answers (with_replaced d a (replaceable_at d a) value) done)
-set_attribute_found none d e n value =
+set_attribute_found None d e n value =
     guarded
     (full_unless (name_fits_in d n && (text_fits d (slots_for value) 0 (length value) && node_fits d attributes e)))
     d
@@ -219,9 +218,9 @@ set_attribute d e ns local value =
     guarded (check_set_attribute ns local value (view_at d e) (is_some found)) d (set_attribute_found found d e (name ns local) value)
 
 abbrev pub declare_namespace_found : Option ℕ → Doc → ℕ → List ℕ → List ℕ → Out
-declare_namespace_found (some a) d e prefix uri =
+declare_namespace_found (Some a) d e prefix uri =
     guarded (full_unless (replacement_fits d (replaceable_at d a) uri)) d (answers (with_replaced d a (replaceable_at d a) uri) (made a))
-declare_namespace_found none d e prefix uri =
+declare_namespace_found None d e prefix uri =
     guarded
     (full_unless (two_fit d prefix uri && node_fits d namespaces e))
     d
@@ -236,8 +235,8 @@ abbrev pub removed : Doc → ℕ → Doc
 removed d h = let e = unhook d h in free_all e (subtree e h)
 
 abbrev pub remove_attribute_found : Option ℕ → Doc → Out
-remove_attribute_found none d = answers d (truth false)
-remove_attribute_found (some a) d = answers (removed d a) (truth true)
+remove_attribute_found None d = answers d (truth false)
+remove_attribute_found (Some a) d = answers (removed d a) (truth true)
 
 abbrev pub remove_attribute : Doc → ℕ → List ℕ → List ℕ → Out
 remove_attribute d e ns local =
@@ -249,7 +248,7 @@ move_to d p at c =
     let e = unhook d c in
     guarded
     (first
-    (check_move (view_at d c) (view_at d p) (on_path (length d.gens) d c p) (root_taken d (some c)))
+    (check_move (view_at d c) (view_at d p) (on_path (length d.gens) d c p) (root_taken d (Some c)))
     (full_unless (room_fits e children p)))
     d
     (answers (attach e children p (or_else (length (list_at e children p)) at) c) done)
@@ -260,19 +259,19 @@ abbrev pub lists : Doc → Which → ℕ → Answered
 lists d w h = listed (shown_block d w h) (shown_list d w h)
 
 abbrev pub key_of : ℕ → Option ℕ
-key_of word = cond (ltb word no_key) (some word) none
+key_of word = cond (ltb word no_key) (Some word) None
 
 -- "`order_key` of a live handle is OrderStale while the order is not current .. a stale handle has no key, nor in a current order a node outside"
 abbrev pub order_key : Doc → ℕ → Answered
 order_key d h =
-    cond (resolves d h) (cond d.current (key (key_of (get_or d.order (handle_index h) no_key))) (refused 15)) (key none)
+    cond (resolves d h) (cond d.current (key (key_of (get_or d.order (handle_index h) no_key))) (refused 15)) (key None)
 
 -- a kind as shown: the name's number, the texts as bytes
 abbrev pub shown_kind : Doc → ℕ → Answered
 shown_kind d h =
     cond (resolves d h)
-    (kind_is (some (map_kind (λ n. n) (bytes_at d) (kind_at d h))) (shown_range attributes) (shown_range namespaces))
-    (kind_is none (block 0 0) (block 0 0))
+    (kind_is (Some (map_kind (λ n. n) (bytes_at d) (kind_at d h))) (shown_range attributes) (shown_range namespaces))
+    (kind_is None (block 0 0) (block 0 0))
   where
     shown_range : Which → Block
     shown_range w = cond (is_element (kind_at d h)) (range_in d w (handle_index h)) (block 0 0)
@@ -296,8 +295,8 @@ step (remove-attribute e ns local) d = remove_attribute d e ns local
 step (declare-namespace e prefix uri) d = declare_namespace d e prefix uri
 step (remove h) d = guarded (check_remove (view_at d h)) d (answers (removed d h) done)
 step (detach h) d = guarded (check_detach (view_at d h)) d (answers (unhook d h) done)
-step (reparent c p) d = move_to d p none c
-step (insert-at p i c) d = move_to d p (some i) c
+step (reparent c p) d = move_to d p None c
+step (insert-at p i c) d = move_to d p (Some i) c
 step document-order d = document_order d
 step compact d = answers (renew_order (rebuild_arenas d)) done
 step root-of d = answers d (made root_handle)

@@ -1,7 +1,6 @@
 -- The checks of each call but Full, in the Rust's order after 1, as 01's numbers, 0 where the call is accepted. The document and the plain
 -- tree share them: a node is seen as its kind with its name pair and its bytes, or none where the handle is stale.
-use Rattle.std.specs.Prelude.{Bool, true, false, not, ◌&&◌, cond, List, [], ◌∷◌, ℕ}
-use Rattle.std.proofs.Math.Option.{Option, none, some}
+use Rattle.std.specs.Prelude.{Bool, true, false, not, ◌&&◌, cond, List, [], ◌∷◌, ℕ, Option, None, Some}
 use Rattle.names.specs.Table.{Name}
 use Rattle.model.specs.Kinds.{Kind, is_container, is_element, is_root, child_kind, text_of}
 use Rattle.model.specs.Doc.{is_none, any_option}
@@ -16,18 +15,18 @@ is_empty (x ∷ l) = false
 
 -- "6 Stale .. 8 NotAContainer"
 abbrev pub container : View → ℕ
-container none = 6
-container (some k) = refuse_if (not (is_container k)) 8
+container None = 6
+container (Some k) = refuse_if (not (is_container k)) 8
 
 -- "6 Stale, 7 NotAnElement"
 abbrev pub an_element : View → ℕ
-an_element none = 6
-an_element (some k) = refuse_if (not (is_element k)) 7
+an_element None = 6
+an_element (Some k) = refuse_if (not (is_element k)) 7
 
 -- "6 Stale .. 9 NotAChild .. 11 NotRemovable"
 abbrev pub a_child : View → ℕ
-a_child none = 6
-a_child (some k) = child_kind k
+a_child None = 6
+a_child (Some k) = child_kind k
 
 -- "Text under the Root is space, tab, newline only, or empty."
 abbrev pub text_under : Bool → List ℕ → ℕ
@@ -53,8 +52,8 @@ check_append_pi target content parent =
 
 -- "10 NotText"
 abbrev pub a_text : View → ℕ
-a_text none = 6
-a_text (some k) = refuse_if (is_none (text_of k)) 10
+a_text None = 6
+a_text (Some k) = refuse_if (is_none (text_of k)) 10
 
 -- under_root: the node's parent is the Root
 abbrev pub check_set_text : List ℕ → View → Bool → ℕ
@@ -84,20 +83,20 @@ abbrev pub check_declare_namespace : List ℕ → List ℕ → View → ℕ
 check_declare_namespace prefix uri node = first (not_utf8 (prefix ∷ uri ∷ [])) (first (an_element node) (declaration_check prefix uri))
 
 abbrev pub check_remove : View → ℕ
-check_remove none = 6
-check_remove (some k) = refuse_if (is_root k) 11
+check_remove None = 6
+check_remove (Some k) = refuse_if (is_root k) 11
 
 abbrev pub check_detach : View → ℕ
 check_detach node = a_child node
 
 -- "A stored text that isn't UTF-8 is 3 in a move."
 abbrev pub moved_text : Bool → Option (List ℕ) → ℕ
-moved_text under_root none = 0
-moved_text under_root (some t) = cond (is_utf8 t) (text_under under_root t) 3
+moved_text under_root None = 0
+moved_text under_root (Some t) = cond (is_utf8 t) (text_under under_root t) 3
 
 abbrev pub stored_text : View → Option (List ℕ)
-stored_text none = none
-stored_text (some k) = text_of k
+stored_text None = None
+stored_text (Some k) = text_of k
 
 -- "In each move the kind, container, cycle, second root and text are tested in that order."
 -- cycle: the node is the new parent or above it; taken: the Root's element is another

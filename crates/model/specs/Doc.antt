@@ -1,6 +1,5 @@
 -- The document as lists, shaped as the source: what the words of lent memory mean. Each call is a function on it (`Calls`).
-use Rattle.std.specs.Prelude.{Bool, true, false, ◌&&◌, ◌||◌, cond, List, [], ◌∷◌, ℕ, zero, suc, ◌+◌, ◌%◌, length, get_or, replicate, eqb, leb, ltb}
-use Rattle.std.proofs.Math.Option.{Option, none, some}
+use Rattle.std.specs.Prelude.{Bool, true, false, ◌&&◌, ◌||◌, cond, List, [], ◌∷◌, ℕ, zero, suc, ◌+◌, ◌%◌, length, get_or, replicate, eqb, leb, ltb, Option, None, Some}
 use Rattle.words.specs.Lists.{find, joined, tabulate}
 use Rattle.blocks.specs.Arena.{Arena, Block, block, list_of, fresh_arena}
 use Rattle.records.specs.Handles.{handle_index, handle_generation, word_of}
@@ -59,24 +58,24 @@ abbrev pub no_key : ℕ
 no_key = 4294967295
 
 abbrev pub is_some : {A : Type 0} → Option A → Bool
-is_some none = false
-is_some (some a) = true
+is_some None = false
+is_some (Some a) = true
 
 abbrev pub is_none : {A : Type 0} → Option A → Bool
-is_none none = true
-is_none (some a) = false
+is_none None = true
+is_none (Some a) = false
 
 abbrev pub or_else : {A : Type 0} → A → Option A → A
-or_else d none = d
-or_else d (some a) = a
+or_else d None = d
+or_else d (Some a) = a
 
 abbrev pub any_option : {A : Type 0} → (A → Bool) → Option A → Bool
-any_option p none = false
-any_option p (some a) = p a
+any_option p None = false
+any_option p (Some a) = p a
 
 abbrev pub map_option : {A B : Type 0} → (A → B) → Option A → Option B
-map_option f none = none
-map_option f (some a) = some (f a)
+map_option f None = None
+map_option f (Some a) = Some (f a)
 
 -- Start: "lays the Root alone, all else zero"; the order is current
 abbrev pub fresh : Limits → Doc
@@ -84,8 +83,8 @@ fresh l = record {
   limits = l;
   gens = 0 ∷ [];
   free = [];
-  kinds = some root ∷ [];
-  parents = none ∷ [];
+  kinds = Some root ∷ [];
+  parents = None ∷ [];
   ranges = λ w. block 0 0 ∷ [];
   arenas = λ w. fresh_arena (l.entries w);
   order = replicate l.nodes 0;
@@ -250,7 +249,7 @@ abbrev pub generation_at : Doc → ℕ → ℕ
 generation_at d i = get_or d.gens i 1
 
 abbrev pub live_slot : Doc → ℕ → Bool
-live_slot d i = even (generation_at d i) && is_some (get_or d.kinds i none)
+live_slot d i = even (generation_at d i) && is_some (get_or d.kinds i None)
 
 -- the handle of the node in a slot
 abbrev pub handle_at : Doc → ℕ → ℕ
@@ -266,13 +265,13 @@ live_nodes d = joined (λ i. cond (live_slot d i) (handle_at d i ∷ []) []) (ta
 
 -- what a slot holds, and what a handle points at
 abbrev pub kind_in : Doc → ℕ → Kind ℕ (Option ℕ)
-kind_in d i = or_else root (get_or d.kinds i none)
+kind_in d i = or_else root (get_or d.kinds i None)
 
 abbrev pub kind_at : Doc → ℕ → Kind ℕ (Option ℕ)
 kind_at d h = kind_in d (handle_index h)
 
 abbrev pub parent_in : Doc → ℕ → Option ℕ
-parent_in d i = get_or d.parents i none
+parent_in d i = get_or d.parents i None
 
 abbrev pub parent_at : Doc → ℕ → Option ℕ
 parent_at d h = parent_in d (handle_index h)
@@ -299,7 +298,7 @@ node_at d h = map_kind (pair_at d) (bytes_at d) (kind_at d h)
 
 -- what a handle shows to the checks: the node, or none where it is stale
 abbrev pub view_at : Doc → ℕ → Option (Kind Name (List ℕ))
-view_at d h = cond (resolves d h) (some (node_at d h)) none
+view_at d h = cond (resolves d h) (Some (node_at d h)) None
 
 -- a list as it is shown: of a live handle, attributes and namespaces only of an element; "an empty list for a range outside its arena"
 abbrev pub has_list : Which → Bool → Bool
@@ -322,7 +321,7 @@ shown_list d w h = list_of (d.arenas w) (shown_block d w h)
 
 -- the parent as it is shown: none of a stale handle
 abbrev pub shown_parent : Doc → ℕ → Option ℕ
-shown_parent d h = cond (resolves d h) (parent_at d h) none
+shown_parent d h = cond (resolves d h) (parent_at d h) None
 
 -- the element among the Root's children
 abbrev pub shows_element : Doc → ℕ → Bool

@@ -1,6 +1,5 @@
 -- The small edits of a document; every call is made of them (`Calls`).
-use Rattle.std.specs.Prelude.{Bool, true, false, cond, List, [], ◌∷◌, ◌++◌, reverse, ℕ, zero, suc, ◌+◌, ◌%◌, length, get_or, set, drop, replicate}
-use Rattle.std.proofs.Math.Option.{Option, none, some}
+use Rattle.std.specs.Prelude.{Bool, true, false, cond, List, [], ◌∷◌, ◌++◌, reverse, ℕ, zero, suc, ◌+◌, ◌%◌, length, get_or, set, drop, replicate, Option, None, Some}
 use Rattle.words.specs.Lists.{joined, keep}
 use Rattle.blocks.specs.Arena.{Arena, Block, block, Edit, inserted, removed, laid}
 use Rattle.records.specs.Handles.{handle_index}
@@ -25,7 +24,7 @@ set_parent d h p = change_current (change_nodes d d.kinds (set d.parents (handle
 
 -- a node's kind and the pool changed: a replaced text, which leaves the order current
 unfoldable pub set_kind : Doc → ℕ → Kind ℕ (Option ℕ) → Pool → Doc
-set_kind d h k p = change_pool (change_nodes d (set d.kinds (handle_index h) (some k)) d.parents d.ranges) p
+set_kind d h k p = change_pool (change_nodes d (set d.kinds (handle_index h) (Some k)) d.parents d.ranges) p
 
 -- ---- slots: "On freeing and on reuse a generation goes up by one, and from 4,294,967,295 to 0."
 
@@ -43,11 +42,11 @@ next_handle d = next_from d.free d
 -- a new node in no list yet, all its blocks (0, 0) and without a key, with the pool and the names that hold what it shows
 abbrev pub born_from : List ℕ → Doc → Kind ℕ (Option ℕ) → Pool → List (Option Name) → Doc
 born_from [] d k p n =
-    let nodes = change_nodes d (d.kinds ++ (some k ∷ [])) (d.parents ++ (none ∷ [])) (λ w. d.ranges w ++ (block 0 0 ∷ [])) in
+    let nodes = change_nodes d (d.kinds ++ (Some k ∷ [])) (d.parents ++ (None ∷ [])) (λ w. d.ranges w ++ (block 0 0 ∷ [])) in
     let slots = change_slots nodes (d.gens ++ (0 ∷ [])) [] in
     change_names (change_pool (change_order slots (set d.order (length d.gens) no_key) false) p) n
 born_from (i ∷ l) d k p n =
-    let nodes = change_nodes d (set d.kinds i (some k)) (set d.parents i none) (λ w. set (d.ranges w) i (block 0 0)) in
+    let nodes = change_nodes d (set d.kinds i (Some k)) (set d.parents i None) (λ w. set (d.ranges w) i (block 0 0)) in
     let slots = change_slots nodes (set d.gens i (up (generation_at d i))) l in
     change_names (change_pool (change_order slots (set d.order i no_key) false) p) n
 
@@ -60,8 +59,8 @@ unfoldable pub link : Doc → Which → ℕ → ℕ → ℕ → Doc
 link d w p i h = set_block d w (handle_index p) (inserted (d.arenas w) (range_in d w (handle_index p)) i h)
 
 abbrev pub unlink_from : Option ℕ → Doc → ℕ → Doc
-unlink_from none d h = d
-unlink_from (some p) d h =
+unlink_from None d h = d
+unlink_from (Some p) d h =
     let w = which_of (kind_at d h) in
     set_block d w (handle_index p) (removed (d.arenas w) (range_in d w (handle_index p)) h)
 
@@ -70,10 +69,10 @@ unlink d h = unlink_from (parent_at d h) d h
 
 -- a node without a parent goes under p at index i; a node is taken off its parent, if it has one
 abbrev pub attach : Doc → Which → ℕ → ℕ → ℕ → Doc
-attach d w p i h = link (set_parent d h (some p)) w p i h
+attach d w p i h = link (set_parent d h (Some p)) w p i h
 
 abbrev pub unhook : Doc → ℕ → Doc
-unhook d h = set_parent (unlink d h) h none
+unhook d h = set_parent (unlink d h) h None
 
 -- ---- freeing
 

@@ -1,8 +1,7 @@
 -- The starred bench examples of 01, over the calls on the document, as one list; example 11 as 02 (f) has it; a value replaced, also in the plain tree; and the
 -- fault that the port removes.
-use Rattle.std.specs.Prelude.{◌≡◌, List, [], ◌∷◌, map}
-use Rattle.std.proofs.Math.Option.{some}
-use Prim.Native.Nat.{ℕ, ◌+◌, ◌*◌}
+use Rattle.std.specs.Prelude.{◌≡◌, List, [], ◌∷◌, map, Some}
+use Prim.Native.Nat.{ℕ}
 use Rattle.blocks.specs.Arena.{block, cap_of}
 use Rattle.names.specs.Table.{name}
 use Rattle.model.specs.Kinds.{attribute, namespace, children}
@@ -181,12 +180,12 @@ pub record Starred : Type 0 where
   pub nine-refused : map name_check refused_names ≡ 2 ∷ 2 ∷ 2 ∷ 2 ∷ 2 ∷ []
   pub nine-accepted : map name_check accepted_names ≡ 0 ∷ 0 ∷ 0 ∷ []
   pub eleven : (from declarations).answers ≡ made (h 1 0) ∷ refused 2 ∷ made (h 2 0) ∷ refused 2 ∷ made (h 3 0) ∷ made (h 3 0) ∷ []
-  pub eleven-bound : view_at (from declarations).doc (h 2 0) ≡ some (namespace (byte 112) (byte 117))
-  pub eleven-undone : view_at (from declarations).doc (h 3 0) ≡ some (namespace [] [])
+  pub eleven-bound : view_at (from declarations).doc (h 2 0) ≡ Some (namespace (byte 112) (byte 117))
+  pub eleven-undone : view_at (from declarations).doc (h 3 0) ≡ Some (namespace [] [])
   pub under-child : (from under_child).answers ≡ made (h 1 0) ∷ made (h 2 0) ∷ refused 13 ∷ []
   pub replaced-value : (from replaced_value).answers ≡ made (h 1 0) ∷ done ∷ done ∷ listed (block 0 1) (h 2 0 ∷ []) ∷ []
   pub replaced-plainly : ((plainly replaced_value seed).births ≡ 3) × ((plainly replaced_value seed).kind 2 ≡ attribute (name [] (byte 97)) (byte 119))
   pub detached-kept : (from detached_tree).answers ≡ made (h 1 0) ∷ made (h 2 0) ∷ done ∷ done ∷ listed (block 0 1) (h 2 0 ∷ []) ∷ []
   -- removal, then an addition in the same slot: the key is refused until the order is renewed, and then is the new node's
   pub order-stale : (from fault).answers
-      ≡ made (h 1 0) ∷ made (h 2 0) ∷ made (h 3 0) ∷ keys (0 ∷ 1 ∷ 2 ∷ 3 ∷ []) ∷ done ∷ made (h 2 2) ∷ refused 15 ∷ keys (0 ∷ 1 ∷ 3 ∷ 2 ∷ []) ∷ key (some 3) ∷ key (some 2) ∷ []
+      ≡ made (h 1 0) ∷ made (h 2 0) ∷ made (h 3 0) ∷ keys (0 ∷ 1 ∷ 2 ∷ 3 ∷ []) ∷ done ∷ made (h 2 2) ∷ refused 15 ∷ keys (0 ∷ 1 ∷ 3 ∷ 2 ∷ []) ∷ key (Some 3) ∷ key (Some 2) ∷ []

@@ -1,7 +1,6 @@
 -- What a node is. One type serves the document, where a name is a number and a text is a text slot or none, and the plain tree, where
 -- a name is its (namespace, local) pair and a text is its bytes.
-use Rattle.std.specs.Prelude.{Bool, true, false, List, [], ◌∷◌, ℕ}
-use Rattle.std.proofs.Math.Option.{Option, none, some}
+use Rattle.std.specs.Prelude.{Bool, true, false, List, [], ◌∷◌, ℕ, Option, None, Some}
 
 -- `NodeData` of the source, without its ranges; N are names, T texts
 pub data Kind (N T : Type 0) : Type 0 where
@@ -94,32 +93,32 @@ module _ {N T : Type 0} where
 
   -- the content of a text node
   abbrev pub text_of : Kind N T → Option T
-  text_of root = none
-  text_of (element n) = none
-  text_of (attribute n v) = none
-  text_of (text t) = some t
-  text_of (comment t) = none
-  text_of (namespace p u) = none
-  text_of (instruction t d) = none
+  text_of root = None
+  text_of (element n) = None
+  text_of (attribute n v) = None
+  text_of (text t) = Some t
+  text_of (comment t) = None
+  text_of (namespace p u) = None
+  text_of (instruction t d) = None
 
   -- the name of an attribute, and the prefix of a namespace node
   abbrev pub attribute_name : Kind N T → Option N
-  attribute_name root = none
-  attribute_name (element n) = none
-  attribute_name (attribute n v) = some n
-  attribute_name (text t) = none
-  attribute_name (comment t) = none
-  attribute_name (namespace p u) = none
-  attribute_name (instruction t d) = none
+  attribute_name root = None
+  attribute_name (element n) = None
+  attribute_name (attribute n v) = Some n
+  attribute_name (text t) = None
+  attribute_name (comment t) = None
+  attribute_name (namespace p u) = None
+  attribute_name (instruction t d) = None
 
   abbrev pub prefix_of : Kind N T → Option T
-  prefix_of root = none
-  prefix_of (element n) = none
-  prefix_of (attribute n v) = none
-  prefix_of (text t) = none
-  prefix_of (comment t) = none
-  prefix_of (namespace p u) = some p
-  prefix_of (instruction t d) = none
+  prefix_of root = None
+  prefix_of (element n) = None
+  prefix_of (attribute n v) = None
+  prefix_of (text t) = None
+  prefix_of (comment t) = None
+  prefix_of (namespace p u) = Some p
+  prefix_of (instruction t d) = None
 
   -- the names and the texts of a node, in the order in which the texts are released
   abbrev pub names_of : Kind N T → List N
@@ -142,13 +141,13 @@ module _ {N T : Type 0} where
 
   -- the text that `set_text`, and a second `set_attribute` or `declare_namespace`, replaces: the content, the value, the URI
   abbrev pub replaceable : Kind N T → Option T
-  replaceable root = none
-  replaceable (element n) = none
-  replaceable (attribute n v) = some v
-  replaceable (text t) = some t
-  replaceable (comment t) = none
-  replaceable (namespace p u) = some u
-  replaceable (instruction t d) = none
+  replaceable root = None
+  replaceable (element n) = None
+  replaceable (attribute n v) = Some v
+  replaceable (text t) = Some t
+  replaceable (comment t) = None
+  replaceable (namespace p u) = Some u
+  replaceable (instruction t d) = None
 
   abbrev pub with_text : Kind N T → T → Kind N T
   with_text root t = root

@@ -1,6 +1,5 @@
 -- The structure rules of 01, one record a rule. A document that breaks none of them is what every editing call asks; any other is Damaged.
-use Rattle.std.specs.Prelude.{◌≡◌, Bool, true, false, cond, ℕ, ◌+◌, ◌%◌, ◌≤◌, ◌<◌, length, get_or, eqb}
-use Rattle.std.proofs.Math.Option.{Option, none, some}
+use Rattle.std.specs.Prelude.{◌≡◌, Bool, true, false, cond, ℕ, ◌+◌, ◌%◌, ◌≤◌, ◌<◌, length, get_or, eqb, Option, None, Some}
 use mathlib.Core.List.{List, [], ◌∷◌, Memᴰ}
 use Rattle.words.specs.Lists.{count_of, joined, tabulate}
 use Rattle.blocks.specs.Arena.{Block, block}
@@ -26,7 +25,7 @@ pub record Shape (d : Doc) : Type 0 where
   pub caps : (w : Which) → length (d.arenas w).caps ≡ d.limits.entries w
   pub order : length d.order ≡ d.limits.nodes
   -- a range that the kind has no use for is (0, 0)
-  pub unused : (w : Which) (i : ℕ) (k : Kind ℕ (Option ℕ)) → get_or d.kinds i none ≡ some k → has_range w k ≡ false → range_in d w i ≡ block 0 0
+  pub unused : (w : Which) (i : ℕ) (k : Kind ℕ (Option ℕ)) → get_or d.kinds i None ≡ Some k → has_range w k ≡ false → range_in d w i ≡ block 0 0
 
 -- 1. "Counts are within limits, words within their fields. Slot 0 is the only live Root: generation 0, no parent."
 pub record CountsAndFields (d : Doc) : Type 0 where
@@ -37,12 +36,12 @@ pub record CountsAndFields (d : Doc) : Type 0 where
   pub names : length d.names ≤ d.limits.names
   pub name_bytes : length (joined entry_bytes d.names) ≤ d.limits.name_bytes
   pub generations : (i : ℕ) → i < length d.gens → get_or d.gens i 0 < 4294967296
-  pub nodes : (i : ℕ) → even (generation_at d i) ≡ true → is_some (get_or d.kinds i none) ≡ true
+  pub nodes : (i : ℕ) → even (generation_at d i) ≡ true → is_some (get_or d.kinds i None) ≡ true
   pub order_words : (i : ℕ) → i < length d.gens → get_or d.order i 0 < 4294967296
   pub capacities : (w : Which) (i : ℕ) → i < (d.arenas w).used → get_or (d.arenas w).caps i 0 < 4294967296
   pub root_generation : generation_at d 0 ≡ 0
-  pub root_kind : get_or d.kinds 0 none ≡ some root
-  pub root_parent : parent_in d 0 ≡ none
+  pub root_kind : get_or d.kinds 0 None ≡ Some root
+  pub root_parent : parent_in d 0 ≡ None
   pub root_only : (i : ℕ) → live_slot d i ≡ true → is_root (kind_in d i) ≡ true → i ≡ 0
 
 -- 2. "The free list holds every odd-generation slot once and no other."
@@ -52,14 +51,14 @@ pub record FreeList (d : Doc) : Type 0 where
 
 -- 3. "Attributes and namespaces have a live element as parent. Others have a live Root or element, or none (detached)."
 pub record Parents (d : Doc) : Type 0 where
-  pub owner : (i p : ℕ) → live_slot d i ≡ true → parent_in d i ≡ some p → (resolves d p ≡ true) × (owns (which_of (kind_in d i)) (kind_at d p) ≡ true)
-  pub detached : (i : ℕ) → live_slot d i ≡ true → parent_in d i ≡ none → which_of (kind_in d i) ≡ children
+  pub owner : (i p : ℕ) → live_slot d i ≡ true → parent_in d i ≡ Some p → (resolves d p ≡ true) × (owns (which_of (kind_in d i)) (kind_at d p) ≡ true)
+  pub detached : (i : ℕ) → live_slot d i ≡ true → parent_in d i ≡ None → which_of (kind_in d i) ≡ children
 
 -- 4. "A live node with a parent is in just one entry of that parent's block of its kind; no live node's block has another entry."
 pub record Entries (d : Doc) : Type 0 where
-  pub one : (i p : ℕ) → live_slot d i ≡ true → parent_in d i ≡ some p → count_of (eqb (handle_at d i)) (list_at d (which_of (kind_in d i)) p) ≡ 1
+  pub one : (i p : ℕ) → live_slot d i ≡ true → parent_in d i ≡ Some p → count_of (eqb (handle_at d i)) (list_at d (which_of (kind_in d i)) p) ≡ 1
   pub no_other : (w : Which) (i h : ℕ) → live_slot d i ≡ true → Memᴰ h (list_in d w i)
-      → (resolves d h ≡ true) × (parent_at d h ≡ some (handle_at d i)) × (which_of (kind_at d h) ≡ w)
+      → (resolves d h ≡ true) × (parent_at d h ≡ Some (handle_at d i)) × (which_of (kind_at d h) ≡ w)
 
 -- 5. "Non-empty blocks with their capacities lie inside the arena and don't overlap. An empty block's start is at most the arena's length."
 -- the block of a slot: a live node's; a free slot has none
@@ -71,8 +70,8 @@ Blocks d = (w : Which) → BlocksApart (d.arenas w) (block_in d w)
 
 -- 6. "Following parents always ends."
 pub data Ends (d : Doc) : ℕ → Type 0 where
-  top : {i : ℕ} → parent_in d i ≡ none → Ends d i
-  up : {i : ℕ} (p : ℕ) → parent_in d i ≡ some p → Ends d (handle_index p) → Ends d i
+  top : {i : ℕ} → parent_in d i ≡ None → Ends d i
+  up : {i : ℕ} (p : ℕ) → parent_in d i ≡ Some p → Ends d (handle_index p) → Ends d i
 
 abbrev pub ParentsEnd : Doc → Type 0
 ParentsEnd d = (i : ℕ) → live_slot d i ≡ true → Ends d i
@@ -86,8 +85,8 @@ OneRootElement d = count_of (λ c. is_element (kind_at d c)) (list_in d children
 -- the text slots that the live nodes' fields hold
 abbrev pub slots_held : List (Option ℕ) → List ℕ
 slots_held [] = []
-slots_held (none ∷ l) = slots_held l
-slots_held (some s ∷ l) = s ∷ slots_held l
+slots_held (None ∷ l) = slots_held l
+slots_held (Some s ∷ l) = s ∷ slots_held l
 
 abbrev pub held_in : Doc → ℕ → List ℕ
 held_in d i = cond (live_slot d i) (slots_held (texts_of (kind_in d i))) []

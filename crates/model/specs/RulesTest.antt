@@ -1,6 +1,5 @@
 -- The structure rules as a test, one function for each record of `Rules` and in its order. Damaged is answered exactly where it fails.
-use Rattle.std.specs.Prelude.{Bool, true, false, not, ◌&&◌, ◌||◌, [], ℕ, zero, suc, ◌+◌, ◌%◌, length, get_or, eqb, leb, ltb}
-use Rattle.std.proofs.Math.Option.{Option, none, some}
+use Rattle.std.specs.Prelude.{Bool, true, false, not, ◌&&◌, ◌||◌, [], ℕ, zero, suc, ◌+◌, ◌%◌, length, get_or, eqb, leb, ltb, Option, None, Some}
 use Rattle.words.specs.Lists.{count_of, all, all_below, joined}
 use Rattle.blocks.specs.Arena.{Arena, Block, cap_of}
 use Rattle.texts.specs.Pool.{bytes_of}
@@ -16,8 +15,8 @@ abbrev pub implies : Bool → Bool → Bool
 implies a b = not a || b
 
 abbrev pub all_option : {A : Type 0} → (A → Bool) → Option A → Bool
-all_option p none = true
-all_option p (some a) = p a
+all_option p None = true
+all_option p (Some a) = p a
 
 unfoldable pub all_which : (Which → Bool) → Bool
 all_which p = p children && p attributes && p namespaces
@@ -44,13 +43,13 @@ counts_within d =
 unfoldable pub words_within : Doc → Bool
 words_within d =
     all_slots d (λ i. fits_field (get_or d.gens i 0))
-    && all_slots d (λ i. implies (even (generation_at d i)) (is_some (get_or d.kinds i none)))
+    && all_slots d (λ i. implies (even (generation_at d i)) (is_some (get_or d.kinds i None)))
     && all_slots d (λ i. fits_field (get_or d.order i 0))
     && all_which (λ w. all_below (λ i. fits_field (get_or (d.arenas w).caps i 0)) (d.arenas w).used)
 
 unfoldable pub one_root : Doc → Bool
 one_root d =
-    eqb (generation_at d 0) 0 && any_option is_root (get_or d.kinds 0 none) && is_none (parent_in d 0)
+    eqb (generation_at d 0) 0 && any_option is_root (get_or d.kinds 0 None) && is_none (parent_in d 0)
     && all_live d (λ i. implies (is_root (kind_in d i)) (eqb i 0))
 
 unfoldable pub counts_and_fields_hold : Doc → Bool
@@ -66,8 +65,8 @@ free_list_holds d =
 -- ---- 3. "Attributes and namespaces have a live element as parent. Others have a live Root or element, or none (detached)."
 
 abbrev pub parent_holds : Doc → ℕ → Option ℕ → Bool
-parent_holds d i none = same_which (which_of (kind_in d i)) children
-parent_holds d i (some p) = resolves d p && owns (which_of (kind_in d i)) (kind_at d p)
+parent_holds d i None = same_which (which_of (kind_in d i)) children
+parent_holds d i (Some p) = resolves d p && owns (which_of (kind_in d i)) (kind_at d p)
 
 unfoldable pub parents_hold : Doc → Bool
 parents_hold d = all_live d (λ i. parent_holds d i (parent_in d i))

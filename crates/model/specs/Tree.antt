@@ -1,6 +1,5 @@
 -- The plain tree (01, "The plain tree"): births with kinds, parents and lists. No slot, block, capacity, generation or number is in it.
-use Rattle.std.specs.Prelude.{Bool, true, false, not, ◌&&◌, ◌||◌, cond, List, [], ◌∷◌, ◌++◌, ℕ, zero, suc, eqb, length}
-use Rattle.std.proofs.Math.Option.{Option, none, some}
+use Rattle.std.specs.Prelude.{Bool, true, false, not, ◌&&◌, ◌||◌, cond, List, [], ◌∷◌, ◌++◌, ℕ, zero, suc, eqb, length, Option, None, Some}
 use Rattle.words.specs.Lists.{insert_at, without, find, joined, keep, tabulate}
 use Rattle.words.specs.Pieces.{same_bytes}
 use Rattle.names.specs.Table.{Name, name, same_name}
@@ -8,8 +7,7 @@ use Rattle.model.specs.Kinds.{Kind, root, element, attribute, text, comment, nam
 use Rattle.model.specs.Doc.{is_some, or_else, any_option, map_option}
 use Rattle.model.specs.Edits.{update_which}
 use Rattle.model.specs.Checks.{View, check_append_element, check_append_text, check_append_comment, check_append_pi, check_set_text, check_set_attribute, check_remove_attribute, check_declare_namespace, check_remove, check_detach, check_move}
-use Rattle.model.specs.Calls.{Answer, refused, done, made, truth, node, listed, every_node, kind_is, key, other_than}
-use Rattle.model.specs.Calls.{Call, append-element, append-text, append-comment, append-pi, set-text, set-attribute, remove-attribute, declare-namespace, remove, detach, reparent, insert-at, document-order, compact, root-of, kind-of, parent-of, children-of, root-element, is-element, name_of, attribute-nodes, namespace-nodes, nodes, order-key}
+use Rattle.model.specs.Calls.{Answer, refused, done, made, truth, node, listed, every_node, kind_is, key, other_than, Call, append-element, append-text, append-comment, append-pi, set-text, set-attribute, remove-attribute, declare-namespace, remove, detach, reparent, insert-at, document-order, compact, root-of, kind-of, parent-of, children-of, root-element, is-element, name_of, attribute-nodes, namespace-nodes, nodes, order-key}
 
 -- "Nodes have birth numbers, the Root 0. Each has kind, (namespace, local) pair or byte texts, parent or none, lists of children,
 -- attributes, namespaces, and live or gone."
@@ -23,15 +21,15 @@ pub record Tree : Type 0 where
 
 -- "The order is current when fresh"
 abbrev pub seed : Tree
-seed = record { births = 1; live = λ b. eqb b 0; kind = λ b. root; parent = λ b. none; lists = λ w b. []; current = true }
+seed = record { births = 1; live = λ b. eqb b 0; kind = λ b. root; parent = λ b. None; lists = λ w b. []; current = true }
 
 abbrev pub update : {A : Type 0} → (ℕ → A) → ℕ → A → ℕ → A
 update f i v x = cond (eqb x i) v (f x)
 
 -- "A handle means the birth at which it was made, while that lives; any other is Stale." hs gives each birth's handle.
 abbrev pub live_below : (ℕ → Bool) → (ℕ → ℕ) → ℕ → ℕ → Option ℕ
-live_below live hs h zero = none
-live_below live hs h (suc n) = cond (live n && eqb (hs n) h) (some n) (live_below live hs h n)
+live_below live hs h zero = None
+live_below live hs h (suc n) = cond (live n && eqb (hs n) h) (Some n) (live_below live hs h n)
 
 abbrev pub means : Tree → (ℕ → ℕ) → ℕ → Option ℕ
 means t hs h = live_below t.live hs h t.births
@@ -50,8 +48,8 @@ in_order zero ls x = []
 in_order (suc f) ls x = x ∷ (ls namespaces x ++ (ls attributes x ++ joined (λ y. in_order f ls y) (ls children x)))
 
 abbrev pub position : ℕ → ℕ → List ℕ → Option ℕ
-position n b [] = none
-position n b (x ∷ l) = cond (eqb x b) (some n) (position (suc n) b l)
+position n b [] = None
+position n b (x ∷ l) = cond (eqb x b) (Some n) (position (suc n) b l)
 
 -- "Keys count from 0 at the Root"; none for a node outside
 abbrev pub key_in : Tree → ℕ → Option ℕ
@@ -97,8 +95,8 @@ abbrev pub link : Tree → Which → ℕ → ℕ → ℕ → Tree
 link t w p i b = set_list t w p (insert_at i b (t.lists w p))
 
 abbrev pub unlink_from : Option ℕ → Tree → ℕ → Tree
-unlink_from none t b = t
-unlink_from (some p) t b =
+unlink_from None t b = t
+unlink_from (Some p) t b =
     let w = which_of (t.kind b) in
     set_list t w p (without (eqb b) (t.lists w p))
 
@@ -111,17 +109,17 @@ born t k = record {
   births = suc t.births;
   live = update t.live t.births true;
   kind = update t.kind t.births k;
-  parent = update t.parent t.births none;
+  parent = update t.parent t.births None;
   lists = λ w. update (t.lists w) t.births [];
   current = false;
 }
 
 -- "Detach: unlink, no parent."
 abbrev pub unhook : Tree → ℕ → Tree
-unhook t b = set_parent (unlink t b) b none
+unhook t b = set_parent (unlink t b) b None
 
 abbrev pub attach : Tree → Which → ℕ → ℕ → ℕ → Tree
-attach t w p i b = link (set_parent t b (some p)) w p i b
+attach t w p i b = link (set_parent t b (Some p)) w p i b
 
 -- "it and all below, attributes and namespaces too, are gone"
 unfoldable pub gone : Tree → ℕ → Tree
@@ -184,8 +182,8 @@ replaced t b s = set_kind t b (with_text (t.kind b) s)
 
 -- "`set_attribute` on an equal pair, and `declare_namespace` on an equal prefix, replace the text instead."
 abbrev pub set_attribute_found : Option ℕ → Tree → ℕ → Name → List ℕ → Out
-set_attribute_found (some a) t e n value = answers (replaced t a value) done
-set_attribute_found none t e n value = answers (appended t attributes e (attribute n value)) done
+set_attribute_found (Some a) t e n value = answers (replaced t a value) done
+set_attribute_found None t e n value = answers (appended t attributes e (attribute n value)) done
 
 abbrev pub set_attribute : Tree → Option ℕ → List ℕ → List ℕ → List ℕ → Out
 set_attribute t e ns local value =
@@ -193,8 +191,8 @@ set_attribute t e ns local value =
     guarded (check_set_attribute ns local value (view t e) (is_some found)) t (set_attribute_found found t (birth e) (name ns local) value)
 
 abbrev pub declare_namespace_found : Option ℕ → Tree → ℕ → List ℕ → List ℕ → Out
-declare_namespace_found (some a) t e prefix uri = answers (replaced t a uri) (made a)
-declare_namespace_found none t e prefix uri = answers (appended t namespaces e (namespace prefix uri)) (made t.births)
+declare_namespace_found (Some a) t e prefix uri = answers (replaced t a uri) (made a)
+declare_namespace_found None t e prefix uri = answers (appended t namespaces e (namespace prefix uri)) (made t.births)
 
 abbrev pub declare_namespace : Tree → Option ℕ → List ℕ → List ℕ → Out
 declare_namespace t e prefix uri =
@@ -203,8 +201,8 @@ declare_namespace t e prefix uri =
 
 -- "`remove_attribute` removes the equal pair, if there is one."
 abbrev pub remove_attribute_found : Option ℕ → Tree → Out
-remove_attribute_found none t = answers t (truth false)
-remove_attribute_found (some a) t = answers (removed t a) (truth true)
+remove_attribute_found None t = answers t (truth false)
+remove_attribute_found (Some a) t = answers (removed t a) (truth true)
 
 abbrev pub remove_attribute : Tree → Option ℕ → List ℕ → List ℕ → Out
 remove_attribute t e ns local =
@@ -222,23 +220,23 @@ abbrev pub under_root : Tree → Option ℕ → Bool
 under_root t b = any_option (λ p. is_root (t.kind p)) (t.parent (birth b))
 
 abbrev pub shown_list : Tree → Which → Option ℕ → TreeAnswer
-shown_list t w none = listed tt []
-shown_list t w (some b) = listed tt (t.lists w b)
+shown_list t w None = listed tt []
+shown_list t w (Some b) = listed tt (t.lists w b)
 
 abbrev pub order_key : Tree → Option ℕ → TreeAnswer
-order_key t none = key none
-order_key t (some b) = cond t.current (key (key_in t b)) (refused 15)
+order_key t None = key None
+order_key t (Some b) = cond t.current (key (key_in t b)) (refused 15)
 
 abbrev pub parent_of : Tree → Option ℕ → Option ℕ
-parent_of t none = none
-parent_of t (some b) = t.parent b
+parent_of t None = None
+parent_of t (Some b) = t.parent b
 
 -- A step of the plain tree. `document_order` answers by slots: its keys are compared node by node (`Claim`), so the tree answers `done`
 -- there. `name` is no step.
 abbrev pub step : Call → (ℕ → ℕ) → Tree → Out
 step (append-element p ns local) hs t =
     let b = means t hs p in
-    appends (check_append_element ns local (view t b) (other_than (root_element t) none)) t (birth b) (element (name ns local))
+    appends (check_append_element ns local (view t b) (other_than (root_element t) None)) t (birth b) (element (name ns local))
 step (append-text p s) hs t = let b = means t hs p in appends (check_append_text s (view t b)) t (birth b) (text s)
 step (append-comment p s) hs t = let b = means t hs p in appends (check_append_comment s (view t b)) t (birth b) (comment s)
 step (append-pi p target content) hs t =
@@ -252,8 +250,8 @@ step (remove-attribute e ns local) hs t = remove_attribute t (means t hs e) ns l
 step (declare-namespace e prefix uri) hs t = declare_namespace t (means t hs e) prefix uri
 step (remove h) hs t = let b = means t hs h in guarded (check_remove (view t b)) t (answers (removed t (birth b)) done)
 step (detach h) hs t = let b = means t hs h in guarded (check_detach (view t b)) t (answers (unhook t (birth b)) done)
-step (reparent c p) hs t = move_to t (means t hs p) none (means t hs c)
-step (insert-at p i c) hs t = move_to t (means t hs p) (some i) (means t hs c)
+step (reparent c p) hs t = move_to t (means t hs p) None (means t hs c)
+step (insert-at p i c) hs t = move_to t (means t hs p) (Some i) (means t hs c)
 step document-order hs t = answers (set_current t) done
 step compact hs t = answers (set_current t) done
 step root-of hs t = answers t (made 0)

@@ -5,9 +5,9 @@ ghost use Rattle.std.specs.Prelude.{◌≡◌};
 ghost use Rattle.model.specs.Refusals.{number_of};
 
 // The refusals of document 01, in its order: those from the input, then those from the state.
-#[derive(Clone, Copy)]
+#[derive(Clone, Copy, Debug, PartialEq, Eq)]
 pub enum Refusal {
-    NotUtf8,
+    NotUtf8 = 1,
     InvalidName,
     InvalidText,
     BadBuffers,
@@ -25,24 +25,10 @@ pub enum Refusal {
 }
 
 // A refusal's number.
-pub fn number(refusal: Refusal) -> u8
-    ensures { result ≡ number_of refusal }
-{
-    match refusal {
-        Refusal::NotUtf8 => 1,
-        Refusal::InvalidName => 2,
-        Refusal::InvalidText => 3,
-        Refusal::BadBuffers => 4,
-        Refusal::Damaged => 5,
-        Refusal::Stale => 6,
-        Refusal::NotAnElement => 7,
-        Refusal::NotAContainer => 8,
-        Refusal::NotAChild => 9,
-        Refusal::NotText => 10,
-        Refusal::NotRemovable => 11,
-        Refusal::RootElementExists => 12,
-        Refusal::WouldCycle => 13,
-        Refusal::Full => 14,
-        Refusal::OrderStale => 15,
+impl From<Refusal> for u8 {
+    ghost from_gives = { λ refusal n. n ≡ number_of refusal };
+
+    fn from(refusal: Refusal) -> u8 {
+        refusal as u8
     }
 }

@@ -1,8 +1,8 @@
 -- A name written behind the others is appended to the table, and the words hold the table again.
 -- Assumes nothing.
+use Rattle.std.specs.Prelude.{Some}
 use mathlib.Core.Path.{◌≡◌, sym, ap, ◌∙◌}
 use mathlib.Core.Bool.{Bool, true, false, ◌&&◌}
-use mathlib.Core.Option.{some}
 use mathlib.Core.List.{List, [], ◌∷◌, ◌++◌, append_assoc, map, map-append}
 use Prim.Native.Nat.{ℕ, suc, ◌+◌, ◌-◌, ◌≤◌, ◌<◌}
 use native.Mathlib.Omega.{arith}
@@ -22,7 +22,7 @@ use Rattle.names.specs.Table.{Name, name, name_bytes, entry_bytes, number_of, na
 use Rattle.names.specs.Words.{pairs, bytes_at, table_of, TableHeld, one_more, appended, InternedTo}
 use Rattle.names.specs.declared.NameLimits.{NameLimits}
 use Rattle.names.specs.declared.NameCounts.{NameCounts}
-use Rattle.names.proofs.Table.{interned-found, interned-new}
+use Rattle.names.proofs.Table.{number_of-le, interned-found, interned-new}
 use Rattle.names.proofs.Words.{pairs-append, table-names, table-bytes}
 
 -- ---- the words: two ends from word k on, the parts behind the bytes used
@@ -142,9 +142,9 @@ module _ (limits : NameLimits) (counts : NameCounts) (words : List ℕ) (n : Nam
       ∙ ap (λ (r : List (List ℕ)). r ++ (n.namespace ∷ n.local ∷ [])) old)
       ∙ pairs-append counts.names (pieces (bytes_at limits) lengths words) (n.namespace ∷ n.local ∷ []) e
 
-  pub appended-table : table_of limits (one_more counts n) (appended limits counts words n) ≡ table_of limits counts words ++ (some n ∷ [])
+  pub appended-table : table_of limits (one_more counts n) (appended limits counts words n) ≡ table_of limits counts words ++ (Some n ∷ [])
   unfolding table_of
-  appended-table = ap (map some) pairs-after ∙ map-append some (pairs (pieces (bytes_at limits) lengths words)) (n ∷ [])
+  appended-table = ap (map Some) pairs-after ∙ map-append Some (pairs (pieces (bytes_at limits) lengths words)) (n ∷ [])
 
   reach-after : ends_reach 0 (take (counts.names + 1 + (counts.names + 1)) (appended limits counts words n)) (counts.bytes + length (name_bytes n)) ≡ true
   reach-after =
@@ -171,6 +171,12 @@ pub counted-name : (counts : NameCounts) (ns lo : List ℕ) → record { names =
 counted-name counts ns lo =
     let e : counts.bytes + length ns + length lo ≡ counts.bytes + length (ns ++ lo) = omega (arith, length-append ns lo) in
     rw e
+
+-- a pair that the table lacks has the count of names as its number
+pub number-lacked : (limits : NameLimits) (counts : NameCounts) (words : List ℕ) (n : Name) → TableHeld limits counts words
+    → (number_of (table_of limits counts words) n < counts.names → ⊥) → counts.names ≡ number_of (table_of limits counts words) n
+number-lacked limits counts words n h f =
+    omega (arith, number_of-le (table_of limits counts words) n, table-names limits counts words h)
 
 module _ (limits : NameLimits) (counts : NameCounts) (words : List ℕ) (n : Name) (h : TableHeld limits counts words) (k : ℕ) (e : k ≡ number_of (table_of limits counts words) n) where
   -- the pair is there: nothing is written

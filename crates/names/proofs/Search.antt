@@ -1,8 +1,8 @@
 -- A search through the words of a name table, name by name: what is left of the table after k names.
 -- Assumes nothing.
+use Rattle.std.specs.Prelude.{Option, None}
 use mathlib.Core.Path.{◌≡◌, sym, ap, ◌∙◌}
 use mathlib.Core.Bool.{Bool, true, false, ◌&&◌, cond}
-use mathlib.Core.Option.{Option, none}
 use mathlib.Core.List.{List, []}
 use Prim.Native.Nat.{ℕ, suc, ◌+◌, ◌-◌, ◌≤◌, ◌<◌}
 use native.Mathlib.Numerals.{add-one}
@@ -74,7 +74,7 @@ module _ (base n used : ℕ) (words : List ℕ) (fits : n + n ≤ length words) 
 
       opened : number_of (drop k (names_by base n words)) (name namespace local) ≡ cond t 0 (suc (number_of (drop (k + 1) (names_by base n words)) (name namespace local)))
       opened =
-          ap (λ (x : List (Option Name)). number_of x (name namespace local)) (drop-cons (names_by base n words) k none (omega (arith, by_names base n used words fits h)))
+          ap (λ (x : List (Option Name)). number_of x (name namespace local)) (drop-cons (names_by base n words) k None (omega (arith, by_names base n used words fits h)))
           ∙ rw (tested, add-one k)
 
       pub found : t ≡ true → k ≡ number_of (names_by base n words) (name namespace local)

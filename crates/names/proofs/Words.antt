@@ -1,15 +1,15 @@
 -- Between the words of a name table and the table: what the counts say, what is read, and the test of rules 1 and 8.
 -- Assumes nothing.
+use Rattle.std.specs.Prelude.{Option, None, Some}
 use mathlib.Core.Path.{◌≡◌, refl, sym, ap, ◌∙◌}
-use mathlib.Core.Bool.{Bool, true, false, ◌&&◌, and-false}
-use mathlib.Core.Option.{Option, none, some}
+use mathlib.Core.Bool.{Bool, true, false, ◌&&◌}
 use mathlib.Core.List.{List, [], ◌∷◌, ◌++◌, append_assoc, map}
 use Prim.Native.Nat.{ℕ, zero, suc, ◌+◌, ◌≤◌, ◌<◌, min}
 use native.Mathlib.Decide.{dec_lt}
 use native.Mathlib.Omega.{arith}
 use lib.ListN.{length, get_or, take, length-map, get_or-eq_default}
 use lib.Dec.{leb}
-use borrow.Author.Tests.{le-leb, lt-leb, leb-true}
+use borrow.Author.Tests.{le-leb, leb-true}
 use Rattle.words.specs.Parts.{part}
 use Rattle.words.specs.Lists.{joined}
 use Rattle.words.specs.Pieces.{pieces}
@@ -25,14 +25,6 @@ use Rattle.names.specs.declared.NameCounts.{NameCounts}
 -- ---- the test is the rule
 
 module _ (limits : NameLimits) (counts : NameCounts) (words : List ℕ) where
-  pub names-over : limits.names < counts.names → false ≡ table_ok limits counts words
-  unfolding table_ok
-  names-over h = rw (lt-leb counts.names limits.names h)
-
-  pub bytes-over : limits.bytes < counts.bytes → false ≡ table_ok limits counts words
-  unfolding table_ok
-  bytes-over h = rw (lt-leb counts.bytes limits.bytes h, and-false (leb counts.names limits.names))
-
   pub within-ends : counts.names ≤ limits.names → counts.bytes ≤ limits.bytes → table_ok limits counts words ≡ ends_reach 0 (take (counts.names + counts.names) words) counts.bytes
   unfolding table_ok
   within-ends h k = rw (le-leb counts.names limits.names h, le-leb counts.bytes limits.bytes k)
@@ -67,11 +59,11 @@ module _ (limits : NameLimits) (counts : NameCounts) (words : List ℕ) (i : ℕ
   unfolding name_there
   there-number h = rw (place.there-number count used (i + i) words (omega arith))
 
-  pub shown-there : name_there limits counts i words ≡ true → name_shown limits counts i words ≡ some (name (part_shown limits counts i 0 words) (part_shown limits counts i 1 words))
+  pub shown-there : name_there limits counts i words ≡ true → name_shown limits counts i words ≡ Some (name (part_shown limits counts i 0 words) (part_shown limits counts i 1 words))
   unfolding name_shown
   shown-there t = rw t
 
-  pub shown-none : name_there limits counts i words ≡ false → name_shown limits counts i words ≡ none
+  pub shown-none : name_there limits counts i words ≡ false → name_shown limits counts i words ≡ None
   unfolding name_shown
   shown-none t = rw t
 
@@ -88,7 +80,7 @@ length_pairs (suc n) [] h = absurd (omega arith)
 length_pairs (suc n) (x ∷ []) h = absurd (omega arith)
 length_pairs (suc n) (x ∷ y ∷ l) h = ap suc (length_pairs n l (omega arith))
 
-pub joined-pairs : (n : ℕ) (l : List (List ℕ)) → length l ≡ n + n → joined entry_bytes (map some (pairs l)) ≡ joined (λ t. t) l
+pub joined-pairs : (n : ℕ) (l : List (List ℕ)) → length l ≡ n + n → joined entry_bytes (map Some (pairs l)) ≡ joined (λ t. t) l
 joined-pairs zero [] h = refl
 joined-pairs zero (x ∷ l) h = absurd (omega arith)
 joined-pairs (suc n) [] h = absurd (omega arith)
@@ -102,7 +94,7 @@ pairs-append (suc n) [] m h = absurd (omega arith)
 pairs-append (suc n) (x ∷ []) m h = absurd (omega arith)
 pairs-append (suc n) (x ∷ y ∷ l) m h = ap (λ (r : List Name). name x y ∷ r) (pairs-append n l m (omega arith))
 
-pub name_at-pairs : (i : ℕ) (l : List (List ℕ)) → i + i + 1 < length l → name_at (map some (pairs l)) i ≡ some (name (get_or l (i + i) []) (get_or l (i + i + 1) []))
+pub name_at-pairs : (i : ℕ) (l : List (List ℕ)) → i + i + 1 < length l → name_at (map Some (pairs l)) i ≡ Some (name (get_or l (i + i) []) (get_or l (i + i + 1) []))
 name_at-pairs i [] h = absurd (omega arith)
 name_at-pairs i (x ∷ []) h = absurd (omega arith)
 name_at-pairs zero (x ∷ y ∷ l) h = refl
@@ -114,12 +106,12 @@ name_at-pairs (suc i) (x ∷ y ∷ l) h =
 -- ---- n names by ends that reach the bytes used, the first byte at index base
 
 abbrev pub names_by : ℕ → ℕ → List ℕ → List (Option Name)
-names_by base n words = map some (pairs (pieces base (lengths_of (take (n + n) words)) words))
+names_by base n words = map Some (pairs (pieces base (lengths_of (take (n + n) words)) words))
 
 module _ (base n used : ℕ) (words : List ℕ) (fits : n + n ≤ length words) (h : ends_reach 0 (take (n + n) words) used ≡ true) where
   pub by_names : length (names_by base n words) ≡ n
   by_names =
-      length-map (pairs (pieces base (lengths_of (take (n + n) words)) words)) some
+      length-map (pairs (pieces base (lengths_of (take (n + n) words)) words)) Some
       ∙ length_pairs n (pieces base (lengths_of (take (n + n) words)) words) (count-taken (n + n) used words fits h base)
 
   pub by_bytes : base + used ≤ length words → length (joined entry_bytes (names_by base n words)) ≡ used
@@ -129,12 +121,12 @@ module _ (base n used : ℕ) (words : List ℕ) (fits : n + n ≤ length words) 
 
   module _ (i : ℕ) (m : i < n) where
     pub by-pieces : name_at (names_by base n words) i
-        ≡ some (name (get_or (pieces base (lengths_of (take (n + n) words)) words) (i + i) []) (get_or (pieces base (lengths_of (take (n + n) words)) words) (i + i + 1) []))
+        ≡ Some (name (get_or (pieces base (lengths_of (take (n + n) words)) words) (i + i) []) (get_or (pieces base (lengths_of (take (n + n) words)) words) (i + i + 1) []))
     by-pieces = name_at-pairs i (pieces base (lengths_of (take (n + n) words)) words) (omega (arith, count-taken (n + n) used words fits h base))
 
     -- the name of a number is where the ends say
     pub by-ends : name_at (names_by base n words) i
-        ≡ some (name (part (base + start_of words (i + i)) (length_of words (i + i)) words) (part (base + start_of words (i + i + 1)) (length_of words (i + i + 1)) words))
+        ≡ Some (name (part (base + start_of words (i + i)) (length_of words (i + i)) words) (part (base + start_of words (i + i + 1)) (length_of words (i + i + 1)) words))
     by-ends =
         by-pieces
         ∙ rw (piece-taken (n + n) used words fits h (i + i) (omega arith) base, piece-taken (n + n) used words fits h (i + i + 1) (omega arith) base)
@@ -193,5 +185,5 @@ module _ (limits : NameLimits) (counts : NameCounts) (words : List ℕ) (h : Tab
         go (yes g) = there-name g
         go (no g) =
             shown-none limits counts words i (there-number limits counts words i (omega arith))
-            ∙ sym (get_or-eq_default (names_by (bytes_at limits) counts.names words) none {n = i}
+            ∙ sym (get_or-eq_default (names_by (bytes_at limits) counts.names words) None {n = i}
             (omega (arith, by_names (bytes_at limits) counts.names counts.bytes words fits h.ends)))

@@ -1,6 +1,5 @@
 -- The name table (01, "Characters and names"): (namespace, local) pairs, each once; "names are never freed".
-use Rattle.std.specs.Prelude.{Bool, false, ◌&&◌, ◌||◌, cond, List, [], ◌∷◌, ◌++◌, ℕ, ◌+◌, length, get_or, ltb, leb}
-use Rattle.std.proofs.Math.Option.{Option, none, some}
+use Rattle.std.specs.Prelude.{Bool, false, ◌&&◌, ◌||◌, cond, List, [], ◌∷◌, ◌++◌, ℕ, ◌+◌, length, get_or, ltb, leb, Option, None, Some}
 use Rattle.words.specs.Lists.{index_of, joined}
 use Rattle.words.specs.Pieces.{same_bytes}
 
@@ -23,12 +22,12 @@ name_bytes n = n.namespace ++ n.local
 
 -- whether an entry is the pair
 abbrev pub shows : Name → Option Name → Bool
-shows n none = false
-shows n (some m) = same_name n m
+shows n None = false
+shows n (Some m) = same_name n m
 
 abbrev pub entry_bytes : Option Name → List ℕ
-entry_bytes none = []
-entry_bytes (some n) = name_bytes n
+entry_bytes None = []
+entry_bytes (Some n) = name_bytes n
 
 -- "Equal (namespace, local) pairs share one `NameId`": the number of the first equal pair, or the count where there is none
 abbrev pub number_of : List (Option Name) → Name → ℕ
@@ -36,11 +35,11 @@ number_of names n = index_of (shows n) names
 
 -- `intern`: the table after; the number is number_of
 unfoldable pub interned : List (Option Name) → Name → List (Option Name)
-interned names n = cond (ltb (number_of names n) (length names)) names (names ++ (some n ∷ []))
+interned names n = cond (ltb (number_of names n) (length names)) names (names ++ (Some n ∷ []))
 
 -- the pair of a number; none from the name count on
 abbrev pub name_at : List (Option Name) → ℕ → Option Name
-name_at names i = get_or names i none
+name_at names i = get_or names i None
 
 -- what interning takes, asked before any write
 unfoldable pub name_fits : ℕ → ℕ → List (Option Name) → Name → Bool

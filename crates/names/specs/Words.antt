@@ -1,7 +1,6 @@
 -- The words of a name table: two ends a name (of its namespace, of its local part), as many as the name limit has names, then the bytes, one a word. Each part begins
 -- where the one before ends.
-use Rattle.std.specs.Prelude.{◌≡◌, Bool, true, ◌&&◌, cond, List, [], ◌∷◌, map, ℕ, ◌+◌, ◌≤◌, min, length, set, take, leb}
-use Rattle.std.proofs.Math.Option.{Option, none, some}
+use Rattle.std.specs.Prelude.{◌≡◌, Bool, true, ◌&&◌, cond, List, [], ◌∷◌, map, ℕ, ◌+◌, ◌≤◌, min, length, set, take, leb, Option, None, Some}
 use Rattle.words.specs.Parts.{put}
 use Rattle.words.specs.Pieces.{pieces}
 use Rattle.words.specs.Ends.{lengths_of, ends_reach, piece_there, piece_shown}
@@ -9,6 +8,8 @@ use Rattle.names.specs.Table.{Name, name, name_bytes, number_of, interned}
 use Rattle.names.specs.declared.interning.Interned.{Interned}
 use Rattle.names.specs.declared.NameLimits.{NameLimits}
 use Rattle.names.specs.declared.NameCounts.{NameCounts}
+use Rattle.names.specs.declared.NamePart.{NamePart}
+use Rattle.names.specs.declared.NamePart.TheVariants.{Namespace, Local}
 
 -- two pieces after one another are a name
 abbrev pub pairs : List (List ℕ) → List Name
@@ -22,7 +23,7 @@ bytes_at limits = limits.names + limits.names
 
 -- the table that the words hold
 unfoldable pub table_of : NameLimits → NameCounts → List ℕ → List (Option Name)
-table_of limits counts words = map some (pairs (pieces (bytes_at limits) (lengths_of (take (counts.names + counts.names) words)) words))
+table_of limits counts words = map Some (pairs (pieces (bytes_at limits) (lengths_of (take (counts.names + counts.names) words)) words))
 
 -- Structure rules 1 and 8, what they say of the table: "Counts are within limits", "name lengths add to the bytes used"
 pub record TableHeld (limits : NameLimits) (counts : NameCounts) (words : List ℕ) : Type 0 where
@@ -45,6 +46,14 @@ abbrev pub shown_bytes : NameLimits → NameCounts → ℕ
 shown_bytes limits counts = min counts.bytes limits.bytes
 
 -- piece 0 of a name is its namespace, piece 1 its local part
+abbrev pub part_number : NamePart → ℕ
+part_number Namespace = 0
+part_number Local = 1
+
+abbrev pub part_of : NamePart → Name → List ℕ
+part_of Namespace n = n.namespace
+part_of Local n = n.local
+
 unfoldable pub part_shown : NameLimits → NameCounts → ℕ → ℕ → List ℕ → List ℕ
 part_shown limits counts i k words =
     piece_shown (bytes_at limits) (shown_names limits counts + shown_names limits counts) (shown_bytes limits counts) (i + i + k) words
@@ -58,7 +67,7 @@ name_there limits counts i words =
 -- "no name for a number outside its table or bytes outside their pool"
 unfoldable pub name_shown : NameLimits → NameCounts → ℕ → List ℕ → Option Name
 name_shown limits counts i words =
-    cond (name_there limits counts i words) (some (name (part_shown limits counts i 0 words) (part_shown limits counts i 1 words))) none
+    cond (name_there limits counts i words) (Some (name (part_shown limits counts i 0 words) (part_shown limits counts i 1 words))) None
 
 -- ---- interning
 

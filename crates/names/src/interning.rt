@@ -1,12 +1,13 @@
 // Finding a name by its bytes, and interning: a name is appended only where the table lacks it.
-ghost use Rattle.std.specs.Prelude.{◌≡◌, true, ◌&&◌, ◌+◌, ◌-◌, ◌≤◌, ◌<◌, length};
+ghost use Rattle.std.specs.Prelude.{◌≡◌, SomeIff, true, ◌&&◌, ◌+◌, ◌-◌, ◌≤◌, ◌<◌, length};
 ghost use Rattle.words.specs.Parts.{part};
 ghost use Rattle.words.specs.Pieces.{same_bytes};
-ghost use Rattle.names.specs.Table.{name, number_of, interned, name_fits};
+ghost use Rattle.names.specs.Table.{name, number_of, name_fits};
 ghost use Rattle.names.specs.Words.{table_of, TableHeld, one_more, appended, InternedTo};
 
-use crate::{NameCounts, NameLimits};
+use crate::{NameCounts, NameLimits, NameTable};
 use words::NameId;
+use words::pieces::same_bytes;
 
 // The number of an interned name, and the counts after.
 #[derive(Clone, Copy)]
@@ -27,61 +28,45 @@ fn same_name(
     requires { (at ≤ middle) × (middle ≤ end) × (end ≤ length words.now) }
     ensures { result ≡ (same_bytes namespace.now (part at (middle - at) words.now) && same_bytes local.now (part middle (end - middle) words.now)) }
 {
-    if words::pieces::same_bytes(&words[at..middle], namespace) {
-        return words::pieces::same_bytes(&words[middle..end], local);
-    }
-    false
+    same_bytes(&words[at..middle], namespace) && same_bytes(&words[middle..end], local)
 }
 
-// The number of the first equal pair, or the count where there is none: a count, so no `NameId`.
-pub fn find_name(
-    words: &[u64],
-    limits: NameLimits,
-    counts: NameCounts,
-    namespace: &[u8],
-    local: &[u8],
-) -> usize
-    requires { TableHeld limits counts words.now }
-    ensures { result ≡ number_of (table_of limits counts words.now) (name namespace.now local.now) }
-{
-    let n = counts.names;
-    let base = limits.names + limits.names;
-    let mut at = base;
-    let mut k = 0;
-    while k < n {
-        let middle = base + words[k + k] as usize;
-        let end = base + words[k + k + 1] as usize;
-        if same_name(words, at, middle, end, namespace, local) {
-            return k;
+impl NameTable<'_> {
+    // The number of the first equal pair, where there is one. Nothing here says that it has 32 bits, so it is no `NameId`.
+    pub fn find_name(self, namespace: &[u8], local: &[u8]) -> Option<usize>
+        requires { TableHeld self.limits self.counts self.words.now }
+        ensures { SomeIff result (number_of (table_of self.entry.limits self.entry.counts self.entry.words.now) (name namespace.now local.now) < self.entry.counts.names) (number_of (table_of self.entry.limits self.entry.counts self.entry.words.now) (name namespace.now local.now)) }
+    {
+        let words = self.words;
+        let n = self.counts.names;
+        let base = self.limits.names + self.limits.names;
+        let mut at = base;
+        for k in 0..n {
+            let middle = base + words[k + k] as usize;
+            let end = base + words[k + k + 1] as usize;
+            if same_name(words, at, middle, end, namespace, local) {
+                return Some(k);
+            }
+            at = end;
         }
-        at = end;
-        k += 1;
+        None
     }
-    n
-}
 
-// Whether the table has the name, or room for it.
-pub fn name_fits(
-    words: &[u64],
-    limits: NameLimits,
-    counts: NameCounts,
-    namespace: &[u8],
-    local: &[u8],
-) -> bool
-    requires { TableHeld limits counts words.now }
-    ensures { result ≡ name_fits limits.names limits.bytes (table_of limits counts words.now) (name namespace.now local.now) }
-{
-    let k = find_name(words, limits, counts, namespace, local);
-    if k < counts.names {
-        return true;
+    // Whether the table has the name, or room for it.
+    pub fn name_fits(self, namespace: &[u8], local: &[u8]) -> bool
+        requires { TableHeld self.limits self.counts self.words.now }
+        ensures { result ≡ name_fits self.entry.limits.names self.entry.limits.bytes (table_of self.entry.limits self.entry.counts self.entry.words.now) (name namespace.now local.now) }
+    {
+        if self.find_name(namespace, local).is_some() {
+            return true;
+        }
+        self.counts.names < self.limits.names
+            && namespace.len() + local.len() <= self.limits.bytes - self.counts.bytes
     }
-    if counts.names < limits.names {
-        return namespace.len() + local.len() <= limits.bytes - counts.bytes;
-    }
-    false
 }
 
 // Writes a name that the table lacks behind the others.
+// Stays: the words to write are no `NameTable`, since a second type over `&mut` words would serve this and `intern` alone.
 fn append_name(
     words: &mut [u64],
     limits: NameLimits,
@@ -117,14 +102,18 @@ pub fn intern(
     requires { TableHeld limits counts words.old × (name_fits limits.names limits.bytes (table_of limits counts words.old) (name namespace.now local.now) ≡ true) × (limits.names < 4294967296) }
     ensures { InternedTo limits counts words.old words.new (name namespace.now local.now) result }
 {
-    let k = find_name(&words[..], limits, counts, namespace, local);
-    let number = NameId(k as u32);
-    if k < counts.names {
-        return Interned { number, counts };
+    let table = NameTable {
+        words: &words[..],
+        limits,
+        counts,
+    };
+    if let Some(k) = table.find_name(namespace, local) {
+        return Interned {
+            number: NameId(k as u32),
+            counts,
+        };
     }
-    let after = append_name(words, limits, counts, namespace, local);
-    Interned {
-        number,
-        counts: after,
-    }
+    let number = NameId(counts.names as u32);
+    let counts = append_name(words, limits, counts, namespace, local);
+    Interned { number, counts }
 }

@@ -1,12 +1,11 @@
 // The name table: (namespace, local) pairs, each once. Its words are two ends a name, then the bytes, one a word.
 #![tactic(auto)]
 
-ghost use Rattle.std.specs.Prelude.{◌≡◌, ◌&&◌, ◌+◌, ◌≤◌, ◌<◌, length};
-ghost use Rattle.words.specs.Ends.{piece_there};
-ghost use Rattle.names.specs.Words.{bytes_at, table_ok, part_shown, name_there};
+ghost use Rattle.std.specs.Prelude.{◌≡◌, ◌+◌, length};
+ghost use Rattle.names.specs.Words.{bytes_at, part_number, table_ok, part_shown, name_there};
 
 use words::NameId;
-use words::ends::piece_there;
+use words::ends::{check_ends, piece, piece_there};
 
 pub mod interning;
 
@@ -24,85 +23,54 @@ pub struct NameCounts {
     pub bytes: usize,
 }
 
-// Whether the counts are within the limits and the ends reach the bytes used.
-pub fn check_names(words: &[u64], limits: NameLimits, counts: NameCounts) -> bool
-    requires { length words.now ≡ bytes_at limits + limits.bytes }
-    ensures { result ≡ table_ok limits counts words.now }
-{
-    let n = counts.names;
-    let used = counts.bytes;
-    if n > limits.names {
-        return false;
-    }
-    if used > limits.bytes {
-        return false;
-    }
-    words::ends::check_ends(words, n + n, used)
+// The parts of a name, in the order of their bytes.
+#[derive(Clone, Copy)]
+pub enum NamePart {
+    Namespace,
+    Local,
 }
 
-// Part 0 of a name, its namespace, or part 1, its local part; empty for a number outside the table or bytes outside the pool.
-fn read_part(
-    words: &[u64],
-    limits: NameLimits,
-    counts: NameCounts,
-    number: NameId,
-    k: usize,
-) -> &[u64]
-    requires { (length words.now ≡ bytes_at limits + limits.bytes) × (k ≤ 1) }
-    ensures { result.now ≡ part_shown limits counts number.0 k words.now }
-{
-    let index = number.0;
-    let i = index as usize;
-    let limit = limits.names;
-    let n = words::least(counts.names, limit);
-    if i < n {
-        let used = words::least(counts.bytes, limits.bytes);
-        return words::ends::piece(words, limit + limit, n + n, used, i + i + k);
+// The words of a table, as many as its limits say.
+#[derive(Clone, Copy)]
+pub struct NameTable<'a> {
+    pub words: &'a [u64],
+    pub limits: NameLimits,
+    pub counts: NameCounts,
+    pub ghost sized: { length words.now ≡ bytes_at limits + limits.bytes },
+}
+
+impl<'a> NameTable<'a> {
+    // Whether the counts are within the limits and the ends reach the bytes used.
+    #[tactic(auto, unfolding(crate::specs::Words::table_ok))]
+    pub fn check_names(self) -> bool
+        ensures { result ≡ table_ok self.entry.limits self.entry.counts self.entry.words.now }
+    {
+        let n = self.counts.names;
+        let used = self.counts.bytes;
+        n <= self.limits.names && used <= self.limits.bytes && check_ends(self.words, n + n, used)
     }
-    &words[..0]
-}
 
-pub fn read_namespace(
-    words: &[u64],
-    limits: NameLimits,
-    counts: NameCounts,
-    number: NameId,
-) -> &[u64]
-    requires { length words.now ≡ bytes_at limits + limits.bytes }
-    ensures { result.now ≡ part_shown limits counts number.0 0 words.now }
-{
-    read_part(words, limits, counts, number, 0)
-}
-
-pub fn read_local(words: &[u64], limits: NameLimits, counts: NameCounts, number: NameId) -> &[u64]
-    requires { length words.now ≡ bytes_at limits + limits.bytes }
-    ensures { result.now ≡ part_shown limits counts number.0 1 words.now }
-{
-    read_part(words, limits, counts, number, 1)
-}
-
-// Whether piece i and the one behind it are there.
-fn both_there(words: &[u64], count: usize, used: usize, i: usize) -> bool
-    requires { (count ≤ length words.now) × (i < count) }
-    ensures { result ≡ (piece_there count used i words.now && piece_there count used (i + 1) words.now) }
-{
-    if piece_there(words, count, used, i) {
-        return piece_there(words, count, used, i + 1);
+    // A part of a name; empty for a number outside the table or bytes outside the pool.
+    #[tactic(auto, unfolding(crate::specs::Words::part_shown))]
+    pub fn read_part(self, number: NameId, part: NamePart) -> &'a [u64]
+        ensures { result.now ≡ part_shown self.entry.limits self.entry.counts number.0 (part_number part) self.entry.words.now }
+    {
+        let i = number.0 as usize;
+        let n = self.counts.names.min(self.limits.names);
+        let used = self.counts.bytes.min(self.limits.bytes);
+        let at = self.limits.names + self.limits.names;
+        piece(self.words, at, n + n, used, i + i + part as usize)
     }
-    false
-}
 
-// Whether there is a name at the number: two words for each of its parts.
-pub fn has_name(words: &[u64], limits: NameLimits, counts: NameCounts, number: NameId) -> bool
-    requires { length words.now ≡ bytes_at limits + limits.bytes }
-    ensures { result ≡ name_there limits counts number.0 words.now }
-{
-    let index = number.0;
-    let i = index as usize;
-    let n = words::least(counts.names, limits.names);
-    if i >= n {
-        return false;
+    // Whether there is a name at the number: two words for each of its parts.
+    #[tactic(auto, unfolding(crate::specs::Words::name_there))]
+    pub fn has_name(self, number: NameId) -> bool
+        ensures { result ≡ name_there self.entry.limits self.entry.counts number.0 self.entry.words.now }
+    {
+        let i = number.0 as usize;
+        let n = self.counts.names.min(self.limits.names);
+        let used = self.counts.bytes.min(self.limits.bytes);
+        piece_there(self.words, n + n, used, i + i)
+            && piece_there(self.words, n + n, used, i + i + 1)
     }
-    let used = words::least(counts.bytes, limits.bytes);
-    both_there(words, n + n, used, i + i)
 }

@@ -18,23 +18,21 @@ use Rattle.reading.proofs.Orders.{order-shown}
 use Rattle.edits.proofs.Composed.{step-as}
 use Rattle.walks.specs.Order.{put_orders}
 use Rattle.walks.proofs.Cleared.{renewed-step}
-use Rattle.editing.specs.Contract.{Answers}
-use Rattle.editing.proofs.Editing.{performed-answers}
+use Rattle.memory.specs.Performed.{Performed}
 
 abbrev shown_keys : List ℕ → Answered
 shown_keys l = keys l
 
 module _ (d : Document) (mem : List ℕ) (ok : memory_ok d (length mem) ≡ true) where
   -- a current order stays
-  pub stands : d.current ≡ true → Answers document-order d mem (keys (order_shown d mem)) d mem
+  pub stands : d.current ≡ true → Performed document-order d mem (keys (order_shown d mem)) d mem
   stands e =
       let D = decode d mem in
       let h : D ≡ cond d.current D (renew_order D) = sym (ap (λ (q : Bool). cond q D (renew_order D)) e) in
-      performed-answers document-order d mem (keys (order_shown d mem)) d mem refl
-      (record {
+      record {
         answer = ap shown_keys (order-shown d mem ok) ∙ ap (λ (x : Doc). shown_keys (take (length x.gens) x.order)) h;
         change = record { document = h; limits = refl; size = refl; past = refl };
-      })
+      }
 
   -- one that is not is renewed
   module _ (r : Document) (mem' : List ℕ) (e : r ≡ renewed d) (q : mem' ≡ put_orders d (order_of (decode d mem)) mem) where
@@ -45,12 +43,11 @@ module _ (d : Document) (mem : List ℕ) (ok : memory_ok d (length mem) ≡ true
     unfolding memory_ok
     ok' = ap (λ (x : Document). memory_ok x (length mem')) e ∙ ap (memory_ok (renewed d)) change.size ∙ ok
 
-    pub renews : d.current ≡ false → Answers document-order d mem (keys (order_shown r mem')) r mem'
+    pub renews : d.current ≡ false → Performed document-order d mem (keys (order_shown r mem')) r mem'
     renews f =
         let D = decode d mem in
         let h : renew_order D ≡ cond d.current D (renew_order D) = sym (ap (λ (q : Bool). cond q D (renew_order D)) f) in
-        performed-answers document-order d mem (keys (order_shown r mem')) r mem' refl
-        (record {
+        record {
           answer = ap shown_keys (order-shown r mem' ok') ∙ ap (λ (x : Doc). shown_keys (take (length x.gens) x.order)) (change.document ∙ h);
           change = step-as d mem r mem' (renew_order D) (cond d.current D (renew_order D)) change h;
-        })
+        }

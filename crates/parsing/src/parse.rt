@@ -1,281 +1,212 @@
 // What a line says. A line that is not exactly one of the format is no call.
 use layout::Limits;
-use lines::read::{
-    Bytes, Handle, Number, count, position, read_bytes, read_handle, read_number, read_optional,
-    word,
-};
+use lines::{cut, read_bytes, read_handle, read_number, read_optional};
 use records::NodeId;
 
-// Calls and other lines of one word.
+// Calls that edit a document, and lines that start one. Each holds its words in their order.
 #[derive(Clone, Copy)]
-pub enum Alone {
-    Root,
-    RootElement,
-    Nodes,
+pub enum Edit<'a> {
+    AppendElement(NodeId, &'a [u8], &'a [u8]),
+    AppendText(NodeId, &'a [u8]),
+    AppendComment(NodeId, &'a [u8]),
+    AppendPi(NodeId, &'a [u8], &'a [u8]),
+    SetText(NodeId, &'a [u8]),
+    SetAttribute(NodeId, &'a [u8], &'a [u8], &'a [u8]),
+    RemoveAttribute(NodeId, &'a [u8], &'a [u8]),
+    DeclareNamespace(NodeId, &'a [u8], &'a [u8]),
+    Remove(NodeId),
+    Detach(NodeId),
+    Reparent(NodeId, NodeId),
+    InsertAt(NodeId, usize, NodeId),
     DocumentOrder,
     Compact,
     Fresh,
-    Dump,
-}
-
-// Those of a node.
-#[derive(Clone, Copy)]
-pub enum OfNode {
-    Kind,
-    Parent,
-    Children,
-    Descendants,
-    IsElement,
-    AttributeNodes,
-    NamespaceNodes,
-    OrderKey,
-    Ranges,
-}
-
-// Those of a node and a text.
-#[derive(Clone, Copy)]
-pub enum WithText {
-    AppendText,
-    AppendComment,
-    SetText,
-}
-
-// Those of a node and two texts.
-#[derive(Clone, Copy)]
-pub enum WithTexts {
-    AppendElement,
-    RemoveAttribute,
-    DeclareNamespace,
-    AppendPi,
-}
-
-// A line. Its texts lie one behind the other in the buffer for them; a number says where each ends.
-#[derive(Clone, Copy)]
-pub enum Line {
-    NoCall,
-    Alone(Alone),
-    OfNode(OfNode, NodeId),
-    Name(u64),
-    Remove(NodeId),
-    Detach(NodeId),
-    WithText(WithText, NodeId, usize),
-    Reparent(NodeId, NodeId),
-    WithTexts(WithTexts, NodeId, usize, usize),
-    InsertAt(NodeId, u64, NodeId),
-    SetAttribute(NodeId, usize, usize, usize),
     Limits(Limits),
+}
+
+// Lines that show what a document holds.
+#[derive(Clone, Copy)]
+pub enum Read {
+    Root,
+    RootElement,
+    Nodes,
+    Dump,
+    Kind(NodeId),
+    Parent(NodeId),
+    Children(NodeId),
+    Descendants(NodeId),
+    IsElement(NodeId),
+    AttributeNodes(NodeId),
+    NamespaceNodes(NodeId),
+    OrderKey(NodeId),
+    Ranges(NodeId),
+    Name(u64),
+}
+
+#[derive(Clone, Copy)]
+pub enum Line<'a> {
+    Edit(Edit<'a>),
+    Read(Read),
 }
 
 // The longest line that can be a call.
 pub const LONGEST: usize = 262144;
 
-fn one_word(line: &[u8]) -> Line {
-    match position(
-        b"root root_element nodes document_order compact fresh dump",
-        line,
-    ) {
-        0 => Line::Alone(Alone::Root),
-        1 => Line::Alone(Alone::RootElement),
-        2 => Line::Alone(Alone::Nodes),
-        3 => Line::Alone(Alone::DocumentOrder),
-        4 => Line::Alone(Alone::Compact),
-        5 => Line::Alone(Alone::Fresh),
-        6 => Line::Alone(Alone::Dump),
-        _ => Line::NoCall,
+// The most words that a call has.
+const MOST: usize = 9;
+
+// A line of one word.
+fn alone<'a>(call: &[u8]) -> Option<Line<'a>> {
+    Some(match call {
+        b"root" => Line::Read(Read::Root),
+        b"root_element" => Line::Read(Read::RootElement),
+        b"nodes" => Line::Read(Read::Nodes),
+        b"dump" => Line::Read(Read::Dump),
+        b"document_order" => Line::Edit(Edit::DocumentOrder),
+        b"compact" => Line::Edit(Edit::Compact),
+        b"fresh" => Line::Edit(Edit::Fresh),
+        _ => return None,
+    })
+}
+
+fn of_node<'a>(call: &[u8], id: NodeId) -> Option<Line<'a>> {
+    Some(match call {
+        b"kind" => Line::Read(Read::Kind(id)),
+        b"parent" => Line::Read(Read::Parent(id)),
+        b"children" => Line::Read(Read::Children(id)),
+        b"descendants" => Line::Read(Read::Descendants(id)),
+        b"is_element" => Line::Read(Read::IsElement(id)),
+        b"attribute_nodes" => Line::Read(Read::AttributeNodes(id)),
+        b"namespace_nodes" => Line::Read(Read::NamespaceNodes(id)),
+        b"order_key" => Line::Read(Read::OrderKey(id)),
+        b"ranges" => Line::Read(Read::Ranges(id)),
+        b"remove" => Line::Edit(Edit::Remove(id)),
+        b"detach" => Line::Edit(Edit::Detach(id)),
+        _ => return None,
+    })
+}
+
+fn two_words<'a>(call: &[u8], word: &[u8]) -> Option<Line<'a>> {
+    match call {
+        b"name" => Some(Line::Read(Read::Name(read_number(word)?))),
+        _ => of_node(call, read_handle(word)?),
     }
 }
 
-fn of_node(call: &[u8], id: NodeId) -> Line {
-    match position(
-        b"kind parent children descendants is_element attribute_nodes namespace_nodes order_key ranges remove detach",
-        call,
-    ) {
-        0 => Line::OfNode(OfNode::Kind, id),
-        1 => Line::OfNode(OfNode::Parent, id),
-        2 => Line::OfNode(OfNode::Children, id),
-        3 => Line::OfNode(OfNode::Descendants, id),
-        4 => Line::OfNode(OfNode::IsElement, id),
-        5 => Line::OfNode(OfNode::AttributeNodes, id),
-        6 => Line::OfNode(OfNode::NamespaceNodes, id),
-        7 => Line::OfNode(OfNode::OrderKey, id),
-        8 => Line::OfNode(OfNode::Ranges, id),
-        9 => Line::Remove(id),
-        10 => Line::Detach(id),
-        _ => Line::NoCall,
+fn with_text<'a>(call: &[u8], id: NodeId, text: &'a [u8]) -> Option<Edit<'a>> {
+    match call {
+        b"append_text" => Some(Edit::AppendText(id, text)),
+        b"append_comment" => Some(Edit::AppendComment(id, text)),
+        b"set_text" => Some(Edit::SetText(id, text)),
+        _ => None,
     }
 }
 
-fn two_words(line: &[u8]) -> Line {
-    if let Handle::Of { index, generation } = read_handle(word(line, 1)) {
-        return of_node(word(line, 0), NodeId { index, generation });
-    }
-    if lines::read::same(word(line, 0), b"name") {
-        if let Number::Of(number) = read_number(word(line, 1)) {
-            return Line::Name(number);
-        }
-    }
-    Line::NoCall
-}
-
-fn with_text(call: &[u8], id: NodeId, end: usize) -> Line {
-    match position(b"append_text append_comment set_text", call) {
-        0 => Line::WithText(WithText::AppendText, id, end),
-        1 => Line::WithText(WithText::AppendComment, id, end),
-        2 => Line::WithText(WithText::SetText, id, end),
-        _ => Line::NoCall,
-    }
-}
-
-fn with_node(call: &[u8], id: NodeId, other: &[u8]) -> Line {
-    if lines::read::same(call, b"reparent") {
-        if let Handle::Of { index, generation } = read_handle(other) {
-            return Line::Reparent(id, NodeId { index, generation });
-        }
-    }
-    Line::NoCall
-}
-
-fn three_words(line: &[u8], texts: &mut [u8]) -> Line {
-    let Handle::Of { index, generation } = read_handle(word(line, 1)) else {
-        return Line::NoCall;
-    };
-    let id = NodeId { index, generation };
-    if let Bytes::Until(end) = read_bytes(word(line, 2), texts, 0) {
-        return with_text(word(line, 0), id, end);
-    }
-    with_node(word(line, 0), id, word(line, 2))
-}
-
-fn append_pi(id: NodeId, target: &[u8], data: &[u8], texts: &mut [u8]) -> Line {
-    let Bytes::Until(first) = read_bytes(target, texts, 0) else {
-        return Line::NoCall;
-    };
-    let Bytes::Until(second) = read_bytes(data, texts, first) else {
-        return Line::NoCall;
-    };
-    Line::WithTexts(WithTexts::AppendPi, id, first, second)
-}
-
-fn with_name(call: &[u8], id: NodeId, first: usize, second: usize) -> Line {
-    match position(b"append_element remove_attribute declare_namespace", call) {
-        0 => Line::WithTexts(WithTexts::AppendElement, id, first, second),
-        1 => Line::WithTexts(WithTexts::RemoveAttribute, id, first, second),
-        2 => Line::WithTexts(WithTexts::DeclareNamespace, id, first, second),
-        _ => Line::NoCall,
+fn three_words<'a>(call: &[u8], id: NodeId, word: &[u8], texts: &'a mut [u8]) -> Option<Edit<'a>> {
+    match call {
+        b"reparent" => Some(Edit::Reparent(id, read_handle(word)?)),
+        _ => with_text(call, id, read_bytes(word, texts)?.0),
     }
 }
 
 // A call whose first text may be absent.
-fn with_texts(line: &[u8], id: NodeId, texts: &mut [u8]) -> Line {
-    let Bytes::Until(first) = read_optional(word(line, 2), texts, 0) else {
-        return Line::NoCall;
-    };
-    let Bytes::Until(second) = read_bytes(word(line, 3), texts, first) else {
-        return Line::NoCall;
-    };
-    with_name(word(line, 0), id, first, second)
-}
-
-fn insert_at(line: &[u8], id: NodeId) -> Line {
-    let Number::Of(at) = read_number(word(line, 2)) else {
-        return Line::NoCall;
-    };
-    let Handle::Of { index, generation } = read_handle(word(line, 3)) else {
-        return Line::NoCall;
-    };
-    Line::InsertAt(id, at, NodeId { index, generation })
-}
-
-fn four_words(line: &[u8], texts: &mut [u8]) -> Line {
-    let Handle::Of { index, generation } = read_handle(word(line, 1)) else {
-        return Line::NoCall;
-    };
-    let id = NodeId { index, generation };
-    let call = word(line, 0);
-    if lines::read::same(call, b"insert_at") {
-        return insert_at(line, id);
+fn with_name<'a>(call: &[u8], id: NodeId, first: &'a [u8], second: &'a [u8]) -> Option<Edit<'a>> {
+    match call {
+        b"append_element" => Some(Edit::AppendElement(id, first, second)),
+        b"remove_attribute" => Some(Edit::RemoveAttribute(id, first, second)),
+        b"declare_namespace" => Some(Edit::DeclareNamespace(id, first, second)),
+        _ => None,
     }
-    if lines::read::same(call, b"append_pi") {
-        return append_pi(id, word(line, 2), word(line, 3), texts);
-    }
-    with_texts(line, id, texts)
 }
 
-// The two parts of a name, and a value.
-fn set_attribute(line: &[u8], id: NodeId, texts: &mut [u8]) -> Line {
-    let Bytes::Until(first) = read_optional(word(line, 2), texts, 0) else {
-        return Line::NoCall;
-    };
-    let Bytes::Until(second) = read_bytes(word(line, 3), texts, first) else {
-        return Line::NoCall;
-    };
-    let Bytes::Until(third) = read_bytes(word(line, 4), texts, second) else {
-        return Line::NoCall;
-    };
-    Line::SetAttribute(id, first, second, third)
-}
-
-fn five_words(line: &[u8], texts: &mut [u8]) -> Line {
-    if lines::read::same(word(line, 0), b"set_attribute") {
-        if let Handle::Of { index, generation } = read_handle(word(line, 1)) {
-            return set_attribute(line, NodeId { index, generation }, texts);
+fn four_words<'a>(
+    call: &[u8],
+    id: NodeId,
+    first: &[u8],
+    second: &[u8],
+    texts: &'a mut [u8],
+) -> Option<Edit<'a>> {
+    match call {
+        b"insert_at" => Some(Edit::InsertAt(id, read_index(first)?, read_handle(second)?)),
+        b"append_pi" => {
+            let (target, texts) = read_bytes(first, texts)?;
+            Some(Edit::AppendPi(id, target, read_bytes(second, texts)?.0))
+        }
+        _ => {
+            let (first, texts) = read_optional(first, texts)?;
+            with_name(call, id, first, read_bytes(second, texts)?.0)
         }
     }
-    Line::NoCall
 }
 
-// A number for each limit, and whether all are numbers.
-#[derive(Clone, Copy)]
-struct Numbers {
-    all: bool,
-    n: [u64; 8],
+fn set_attribute<'a>(
+    id: NodeId,
+    namespace: &[u8],
+    local: &[u8],
+    value: &[u8],
+    texts: &'a mut [u8],
+) -> Option<Edit<'a>> {
+    let (namespace, texts) = read_optional(namespace, texts)?;
+    let (local, texts) = read_bytes(local, texts)?;
+    let (value, _) = read_bytes(value, texts)?;
+    Some(Edit::SetAttribute(id, namespace, local, value))
 }
 
-fn eight_numbers(line: &[u8]) -> Numbers {
-    let mut n = [0u64; 8];
-    let mut k = 0;
-    while k < 8 {
-        let Number::Of(number) = read_number(word(line, k + 1)) else {
-            return Numbers { all: false, n };
-        };
-        n[k] = number;
-        k += 1;
-    }
-    Numbers { all: true, n }
+// An index or a count.
+fn read_index(word: &[u8]) -> Option<usize> {
+    Some(read_number(word)? as usize)
 }
 
-fn nine_words(line: &[u8]) -> Line {
-    if !lines::read::same(word(line, 0), b"limits") {
-        return Line::NoCall;
-    }
-    let numbers = eight_numbers(line);
-    if !numbers.all {
-        return Line::NoCall;
-    }
-    let n = numbers.n;
-    Line::Limits(Limits {
-        nodes: n[0] as usize,
-        children: n[1] as usize,
-        attributes: n[2] as usize,
-        namespaces: n[3] as usize,
-        texts: n[4] as usize,
-        textbytes: n[5] as usize,
-        names: n[6] as usize,
-        namebytes: n[7] as usize,
+fn read_limits(words: &[&[u8]]) -> Option<Limits> {
+    let [
+        nodes,
+        children,
+        attributes,
+        namespaces,
+        texts,
+        textbytes,
+        names,
+        namebytes,
+    ] = words
+    else {
+        return None;
+    };
+    Some(Limits {
+        nodes: read_index(nodes)?,
+        children: read_index(children)?,
+        attributes: read_index(attributes)?,
+        namespaces: read_index(namespaces)?,
+        texts: read_index(texts)?,
+        textbytes: read_index(textbytes)?,
+        names: read_index(names)?,
+        namebytes: read_index(namebytes)?,
     })
 }
 
-pub fn parse(line: &[u8], texts: &mut [u8]) -> Line {
-    if LONGEST < line.len() {
-        return Line::NoCall;
+// A call of three words or more.
+fn many_words<'a>(call: &[u8], words: &[&[u8]], texts: &'a mut [u8]) -> Option<Edit<'a>> {
+    match words {
+        [id, word] => three_words(call, read_handle(id)?, word, texts),
+        [id, first, second] => four_words(call, read_handle(id)?, first, second, texts),
+        [id, namespace, local, value] if call == b"set_attribute".as_slice() => {
+            set_attribute(read_handle(id)?, namespace, local, value, texts)
+        }
+        _ if call == b"limits".as_slice() => Some(Edit::Limits(read_limits(words)?)),
+        _ => None,
     }
-    match count(line) {
-        1 => one_word(line),
-        2 => two_words(line),
-        3 => three_words(line, texts),
-        4 => four_words(line, texts),
-        5 => five_words(line, texts),
-        9 => nine_words(line),
-        _ => Line::NoCall,
+}
+
+// The texts of a call are written to the lent bytes.
+pub fn parse<'a>(line: &[u8], texts: &'a mut [u8]) -> Option<Line<'a>> {
+    if line.len() > LONGEST {
+        return None;
+    }
+    let mut words = [b"".as_slice(); MOST];
+    let n = cut(line, &mut words)?;
+    match &words[..n] {
+        [call] => alone(call),
+        [call, word] => two_words(call, word),
+        [call, words @ ..] => Some(Line::Edit(many_words(call, words, texts)?)),
+        [] => None,
     }
 }

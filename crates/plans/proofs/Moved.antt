@@ -1,22 +1,21 @@
 -- The plan of a move, over plain values: the stored text, the second root, and Full once the node was taken off its parent.
 -- Assumes nothing.
+use Rattle.words.specs.declared.TextSlot.{TextSlot}
 use mathlib.Core.Path.{◌≡◌, refl, sym, ap, ◌∙◌}
 use mathlib.Core.Bool.{Bool, true, false, not, ◌&&◌, cond}
-use mathlib.Core.Option.{Option, none, some}
 use mathlib.Core.List.{List}
 use Prim.Native.Nat.{ℕ, ◌<◌}
 use native.Mathlib.Omega.{arith}
 use lib.ListN.{length, get_or, set}
 use lib.Seq.{get_or-set_same, get_or-set_other}
-use lib.Dec.{eqb}
-use borrow.Author.Tests.{eqb-true}
 use Rattle.words.specs.Lists.{all}
 use Rattle.words.proofs.Tests.{and_left}
-use Rattle.chars.specs.declared.Check.{Check}
-use Rattle.chars.specs.declared.Check.TheVariants.{Passed, NotUtf8, InvalidName, InvalidText}
+use Rattle.std.specs.Prelude.{Ok, Err, Option, None, Some}
+use Rattle.chars.specs.declared.Fault.{Fault}
+use Rattle.chars.specs.declared.Fault.TheVariants.{InvalidText}
 use Rattle.chars.specs.Productions.{is_char11}
 use Rattle.chars.specs.Utf8 as utf8
-use Rattle.chars.specs.Checks.{number_of, checked, tested, on_text, of_text, check_text}
+use Rattle.chars.specs.Checks.{Check, passed, refused, number_of, checked, tested, on_text, of_text, check_text}
 use Rattle.chars.specs.Checks as text
 use Rattle.blocks.specs.Arena.{Arena, Block, block, has_room, removed}
 use Rattle.blocks.specs.Answer.{has_room_after_removal}
@@ -24,20 +23,18 @@ use Rattle.blocks.specs.Rule.{Inside, Apart}
 use Rattle.blocks.proofs.Removal.{room-removed, room-other}
 use Rattle.records.specs.Handles.{word_of, handle_index}
 use Rattle.records.specs.declared.NodeId.{NodeId}
-use Rattle.records.specs.declared.Chars.{Chars}
 use Rattle.records.specs.declared.NodeData.{NodeData}
 use Rattle.records.specs.declared.NodeData.TheVariants as given
 use Rattle.records.specs.declared.Node.{Node}
-use Rattle.records.specs.declared.Loaded.TheVariants.{Found, NoNode}
 use Rattle.records.proofs.Handles.{handle_index-word_of}
 use Rattle.names.specs.Table.{Name}
-use Rattle.model.specs.Kinds.{Kind, root, element, attribute, text, comment, namespace, instruction, Which, children, which_of, is_element, is_root, child_kind, text_of, map_kind}
-use Rattle.model.specs.Doc.{Doc, resolves, live_slot, kind_at, parent_at, range_in, pair_at, bytes_at, node_at, view_at, any_option, map_option, on_path}
+use Rattle.model.specs.Kinds.{Kind, root, element, attribute, text, comment, namespace, instruction, Which, children, which_of, child_kind, text_of, map_kind}
+use Rattle.model.specs.Doc.{Doc, resolves, live_slot, kind_at, parent_at, range_in, pair_at, bytes_at, node_at, view_at, map_option}
 use Rattle.model.specs.Edits.{update_which, set_parent, unlink_from, unlink, unhook}
 use Rattle.model.specs.Rules.{Shape, Rules, block_in}
 use Rattle.model.specs.Arguments.{refuse_if, first, is_utf8, text_check, space_only}
 use Rattle.model.specs.Checks.{View, container, a_child, moved_text, stored_text, check_move}
-use Rattle.model.specs.Calls.{room_fits, root_taken}
+use Rattle.model.specs.Calls.{room_fits}
 use Rattle.laws.proofs.Basics.{live-below}
 use Rattle.laws.proofs.Guards.{first-zero}
 use Rattle.layout.specs.declared.Document.{Document}
@@ -51,39 +48,31 @@ use Rattle.plans.proofs.Appended.{live-accepted}
 
 -- what the check of a stored text tells of a move: "A stored text that isn't UTF-8 is 3 in a move"
 abbrev after_check : Check → ℕ → ℕ
-after_check Passed n = n
-after_check NotUtf8 n = 3
-after_check InvalidName n = 3
-after_check InvalidText n = 3
+after_check (Ok u) n = n
+after_check (Err why) n = 3
 
 module _ (u : Bool) (t : List ℕ) where
-  moved_by : moved_text u (some t) ≡ after_check (on_text check_text t) (refuse_if (u && not (space_only t)) 3)
+  moved_by : moved_text u (Some t) ≡ after_check (on_text check_text t) (refuse_if (u && not (space_only t)) 3)
   unfolding is_utf8 text.is_utf8 text_check on_text of_text check_text
   moved_by = go (utf8.decode t) (refuse_if (u && not (space_only t)) 3)
     where
-      of-chars : (b : Bool) (n : ℕ) → first (number_of (cond b Passed InvalidText)) n ≡ after_check (cond b Passed InvalidText) n
+      of-chars : (b : Bool) (n : ℕ) → first (number_of (cond b passed (refused InvalidText))) n ≡ after_check (cond b passed (refused InvalidText)) n
       of-chars true n = refl
       of-chars false n = refl
 
       go : (o : Option (List ℕ)) (n : ℕ) → cond (tested (λ (l : List ℕ). true) o) (first (number_of (checked check_text o)) n) 3 ≡ after_check (checked check_text o) n
-      go none n = refl
-      go (some l) n = of-chars (all is_char11 l) n
+      go None n = refl
+      go (Some l) n = of-chars (all is_char11 l) n
 
   module _ (k : Check) (e : k ≡ on_text check_text t) where
-    by : (j : Check) → k ≡ j → moved_text u (some t) ≡ after_check j (refuse_if (u && not (space_only t)) 3)
+    by : (j : Check) → k ≡ j → moved_text u (Some t) ≡ after_check j (refuse_if (u && not (space_only t)) 3)
     by j q = moved_by ∙ ap (λ (x : Check). after_check x (refuse_if (u && not (space_only t)) 3)) (sym e ∙ q)
 
-    pub moved-passed : k ≡ Passed → (v : ℕ) → v ≡ refuse_if (u && not (space_only t)) 3 → v ≡ moved_text u (some t)
-    moved-passed q v s = s ∙ sym (by Passed q)
+    pub moved-passed : k ≡ passed → (v : ℕ) → v ≡ refuse_if (u && not (space_only t)) 3 → v ≡ moved_text u (Some t)
+    moved-passed q v s = s ∙ sym (by passed q)
 
-    pub moved-not-utf8 : k ≡ NotUtf8 → 3 ≡ moved_text u (some t)
-    moved-not-utf8 q = sym (by NotUtf8 q)
-
-    pub moved-name : k ≡ InvalidName → 3 ≡ moved_text u (some t)
-    moved-name q = sym (by InvalidName q)
-
-    pub moved-invalid : k ≡ InvalidText → 3 ≡ moved_text u (some t)
-    moved-invalid q = sym (by InvalidText q)
+    pub moved_refused : (why : Fault) → k ≡ Err why → 3 ≡ moved_text u (Some t)
+    moved_refused why q = sym (by (Err why) q)
 
 -- of a node's text, if it is a text node
 mapped-text : (pair : ℕ → Name) (bytes : Option ℕ → List ℕ) (k : Kind ℕ (Option ℕ)) → text_of (map_kind pair bytes k) ≡ map_option bytes (text_of k)
@@ -99,60 +88,32 @@ module _ (D : Doc) (u : Bool) (v : NodeData) where
   abbrev of_data : NodeData → ℕ
   of_data x = moved_text u (text_of (map_kind (pair_at D) (bytes_at D) (kind_of x)))
 
-  pub no_text : (w : NodeData) → v ≡ w → text_of (kind_of w) ≡ none → 0 ≡ moved_text u (text_of (map_kind (pair_at D) (bytes_at D) (kind_of v)))
+  pub no_text : (w : NodeData) → v ≡ w → text_of (kind_of w) ≡ None → 0 ≡ moved_text u (text_of (map_kind (pair_at D) (bytes_at D) (kind_of v)))
   no_text w e z = sym (ap of_data e ∙ ap (moved_text u) (mapped-text (pair_at D) (bytes_at D) (kind_of w) ∙ ap (map_option (bytes_at D)) z))
 
-  pub own-text : (c : Chars) → v ≡ given.Text c → (t : List ℕ) → t ≡ bytes_at D (slot_of c) → (n : ℕ) → n ≡ moved_text u (some t) → n ≡ moved_text u (text_of (map_kind (pair_at D) (bytes_at D) (kind_of v)))
-  own-text c e t q n k = k ∙ ap (λ (x : List ℕ). moved_text u (some x)) q ∙ sym (ap of_data e)
+  pub own-text : (c : Option TextSlot) → v ≡ given.Text c → (t : List ℕ) → t ≡ bytes_at D (slot_of c) → (n : ℕ) → n ≡ moved_text u (Some t) → n ≡ moved_text u (text_of (map_kind (pair_at D) (bytes_at D) (kind_of v)))
+  own-text c e t q n k = k ∙ ap (λ (x : List ℕ). moved_text u (Some x)) q ∙ sym (ap of_data e)
 
 module _ (d : Document) (mem : List ℕ) (h : NodeId) (hi : h.index < 4294967296) (hg : h.generation < 4294967296) (t : Bool) where
-  pub moved-found : (m : Node) → resolved_in d mem h ≡ Found m → (u : Bool) → u ≡ t → (n : ℕ) → n ≡ moved_text u (text_of (map_kind (pair_at (decode d mem)) (bytes_at (decode d mem)) (kind_of m.«data»)))
+  pub moved-found : (m : Node) → resolved_in d mem h ≡ Some m → (u : Bool) → u ≡ t → (n : ℕ) → n ≡ moved_text u (text_of (map_kind (pair_at (decode d mem)) (bytes_at (decode d mem)) (kind_of m.«data»)))
       → n ≡ moved_text t (stored_text (view_at (decode d mem) (word_of h)))
   moved-found m e u q n k =
       k
       ∙ ap (λ (x : Bool). moved_text x (text_of (map_kind (pair_at (decode d mem)) (bytes_at (decode d mem)) (kind_of m.«data»)))) q
       ∙ sym (ap (λ (w : View). moved_text t (stored_text w)) (view-found d mem h hi hg m e))
 
-  pub moved-stale : resolved_in d mem h ≡ NoNode → 0 ≡ moved_text t (stored_text (view_at (decode d mem) (word_of h)))
+  pub moved-stale : resolved_in d mem h ≡ None → 0 ≡ moved_text t (stored_text (view_at (decode d mem) (word_of h)))
   moved-stale e = sym (ap (λ (w : View). moved_text t (stored_text w)) (view-stale d mem h hi hg e))
-
--- ---- the second root, the cycle
-
-module _ (r x s y : Bool) (e : r ≡ x) (q : s ≡ y) (h : r ≡ true) where
-  pub other-taken : s ≡ true → (t z : Bool) → t ≡ z → (v : ℕ) → v ≡ refuse_if t 12 → v ≡ refuse_if (x && (y && z)) 12
-  other-taken g t z f v k = k ∙ sym (rw (← e, h, ← q, g, ← f))
-
-  pub other-kind : s ≡ false → (z : Bool) → 0 ≡ refuse_if (x && (y && z)) 12
-  other-kind g z = sym (rw (← e, h, ← q, g))
-
-module _ (t x : Bool) (e : t ≡ x) where
-  pub cycle-found : t ≡ true → (m : ℕ) → 13 ≡ first (refuse_if x 13) m
-  cycle-found h m = sym (rw (← e, h))
-
-  pub cycle-none : t ≡ false → (a y b z v : ℕ) → a ≡ y → b ≡ z → v ≡ first a b → v ≡ first (refuse_if x 13) (first y z)
-  cycle-none h a y b z v f g k = k ∙ rw (f, g, ← e, h)
 
 -- ---- the checks were passed
 
-module _ (D : Doc) (c p v : ℕ) (t : Bool) (q : t ≡ eqb v 0) (k : t ≡ true) (e : v ≡ check_move (view_at D c) (view_at D p) (on_path (length D.gens) D c p) (root_taken D (some c))) where
-  abbrev cycle : Bool
-  cycle = on_path (length D.gens) D c p
-
-  abbrev taken : Bool
-  taken = root_taken D (some c)
-
-  abbrev rest : ℕ
-  rest = first (refuse_if cycle 13) (first (refuse_if (any_option is_root (view_at D p) && (any_option is_element (view_at D c) && taken)) 12) (moved_text (any_option is_root (view_at D p)) (stored_text (view_at D c))))
-
-  live-child : resolves D c ≡ true
-  live-child = live-accepted D c a_child refl v t 0 (first (container (view_at D p)) rest) e q k
-
-  pub move-accepted : (resolves D p ≡ true) × (resolves D c ≡ true) × (child_kind (kind_at D c) ≡ 0)
-  move-accepted =
-      let z : check_move (view_at D c) (view_at D p) cycle taken ≡ 0 = sym e ∙ eqb-true v 0 (sym q ∙ k) in
-      let y : a_child (view_at D c) ≡ 0 = (first-zero (a_child (view_at D c)) (first (container (view_at D p)) rest) z).0 in
-      let w : a_child (view_at D c) ≡ child_kind (kind_at D c) = ap (λ (b : Bool). a_child (cond b (some (node_at D c)) none)) live-child ∙ child-kind (pair_at D) (bytes_at D) (kind_at D c) in
-      (live-accepted D p container refl v t (a_child (view_at D c)) rest e q k, live-child, sym w ∙ y)
+module _ (D : Doc) (c p : ℕ) where
+  pub move_accepted : (cycle taken : Bool) → check_move (view_at D c) (view_at D p) cycle taken ≡ 0 → (resolves D p ≡ true) × (resolves D c ≡ true) × (child_kind (kind_at D c) ≡ 0)
+  move_accepted cycle taken z =
+      let child = first-zero (a_child (view_at D c)) _ z in
+      let live : resolves D c ≡ true = live-accepted D c a_child refl child.0 in
+      let w : a_child (view_at D c) ≡ child_kind (kind_at D c) = ap (λ (b : Bool). a_child (cond b (Some (node_at D c)) None)) live ∙ child-kind (pair_at D) (bytes_at D) (kind_at D c) in
+      (live-accepted D p container refl (first-zero (container (view_at D p)) _ child.1).0, live, sym w ∙ child.0)
 
 -- ---- Full
 
@@ -168,10 +129,10 @@ module _ (D : Doc) (sh : Shape D) (R : Rules D) (c p : ℕ) where
   unfolding set_parent unlink
   unhooked o e = ap room_from e
 
-  pub room-detached : parent_at D c ≡ none → room_fits (unhook D c) children p ≡ room_fits D children p
-  room-detached e = unhooked none e
+  pub room-detached : parent_at D c ≡ None → room_fits (unhook D c) children p ≡ room_fits D children p
+  room-detached e = unhooked None e
 
-  module _ (lp : resolves D p ≡ true) (lc : resolves D c ≡ true) (kind : child_kind (kind_at D c) ≡ 0) (q : ℕ) (e : parent_at D c ≡ some q) where
+  module _ (lp : resolves D p ≡ true) (lc : resolves D c ≡ true) (kind : child_kind (kind_at D c) ≡ 0) (q : ℕ) (e : parent_at D c ≡ Some q) where
     abbrev B : Block
     B = range_in D children (handle_index q)
 
@@ -204,7 +165,7 @@ module _ (D : Doc) (sh : Shape D) (R : Rules D) (c p : ℕ) where
         (get_or (update_which D.ranges w (set (D.ranges w) (handle_index q) (removed (D.arenas w) (range_in D w (handle_index q)) c).block) children) (handle_index p) (block 0 0))
 
     under : room_fits (unhook D c) children p ≡ has_room (removed A B c).arena (get_or (set (D.ranges children) (handle_index q) (removed A B c).block) (handle_index p) (block 0 0))
-    under = unhooked (some q) e ∙ ap room_in (is-child (kind_at D c) kind)
+    under = unhooked (Some q) e ∙ ap room_in (is-child (kind_at D c) kind)
 
     -- within one parent its own going makes room
     pub room-same : handle_index q ≡ handle_index p → room_fits (unhook D c) children p ≡ has_room_after_removal A (range_in D children (handle_index p)) c
@@ -236,12 +197,12 @@ module _ (d : Document) (mem : List ℕ) (u : Undamaged d mem) (child parent : N
   as_is : t ≡ (resolves (decode d mem) (word_of parent) && room_fits (decode d mem) children (word_of parent)) → t ≡ room_fits (decode d mem) children (word_of parent)
   as_is q = q ∙ ap (λ (b : Bool). b && room_fits Dm children (word_of parent)) lp
 
-  pub fits-detached : parent_at (decode d mem) w ≡ none → t ≡ (resolves (decode d mem) (word_of parent) && room_fits (decode d mem) children (word_of parent))
+  pub fits-detached : parent_at (decode d mem) w ≡ None → t ≡ (resolves (decode d mem) (word_of parent) && room_fits (decode d mem) children (word_of parent))
       → t ≡ room_fits (unhook (decode d mem) (word_of child)) children (word_of parent)
   fits-detached e q = as_is q ∙ sym (room-detached Dm whole u.rules (word_of child) (word_of parent) (ap (parent_at Dm) (sym ew) ∙ e))
 
-  module _ (lc : resolves (decode d mem) (word_of child) ≡ true) (kind : child_kind (kind_at (decode d mem) (word_of child)) ≡ 0) (old : NodeId) (e : parent_at (decode d mem) w ≡ some (word_of old)) (ho : old.index < 4294967296) (hp : parent.index < 4294967296) where
-    above : parent_at Dm (word_of child) ≡ some (word_of old)
+  module _ (lc : resolves (decode d mem) (word_of child) ≡ true) (kind : child_kind (kind_at (decode d mem) (word_of child)) ≡ 0) (old : NodeId) (e : parent_at (decode d mem) w ≡ Some (word_of old)) (ho : old.index < 4294967296) (hp : parent.index < 4294967296) where
+    above : parent_at Dm (word_of child) ≡ Some (word_of old)
     above = ap (parent_at Dm) (sym ew) ∙ e
 
     pub fits-same : old.index ≡ parent.index

@@ -1,11 +1,12 @@
 // The plans of the calls that append a child.
+#![tactic(auto, using(verdicts::proofs::Verdicts::refused_first, verdicts::proofs::Verdicts::accepted_first, verdicts::proofs::Verdicts::passed_on, crate::proofs::Appended::text_parent, crate::proofs::Appended::comment_parent, crate::proofs::Appended::pi_parent, crate::proofs::Appended::element_parent), unfolding(model::specs::Arguments::comment_check, model::specs::Arguments::instruction_check))]
+
 ghost use Rattle.std.specs.Prelude.{◌≡◌, true, ◌&&◌, length};
 ghost use Rattle.records.specs.Handles.{word_of};
 ghost use Rattle.model.specs.Kinds.{children, is_root};
 ghost use Rattle.model.specs.Doc.{resolves, view_at, any_option};
 ghost use Rattle.model.specs.Arguments.{refuse_if};
 ghost use Rattle.model.specs.Checks.{check_append_text, check_append_comment, check_append_pi, check_append_element};
-ghost use Rattle.std.proofs.Math.Option.{none};
 ghost use Rattle.names.specs.Table.{name};
 ghost use Rattle.model.specs.Calls.{append-element, append-text, append-comment, append-pi, step, full_unless, two_fit, node_fits, name_fits_in, root_taken};
 ghost use Rattle.layout.specs.Layout.{memory_ok};
@@ -20,55 +21,56 @@ use model::Refusal;
 use records::NodeId;
 use room::full::{name_fits, node_fits, text_node_fits, two_fit};
 use verdicts::arguments::{check_name, not_utf8, text_under, two_not_utf8};
-use verdicts::verdict::{Verdict, first, full_unless, is_accepted, of_check, refuse_if};
+use verdicts::verdict::{full_unless, of_check, refuse_if};
 
 // The text, then the container, then the text again by the rule of its parent.
-fn check_append_text(d: Document, mem: &[u64], parent: NodeId, text: &[u8]) -> Verdict
+fn check_append_text(d: Document, mem: &[u64], parent: NodeId, text: &[u8]) -> Result<(), Refusal>
     requires { memory_ok d (length mem.now) ≡ true }
     ensures { verdict_number result ≡ check_append_text text.now (view_at (decode d mem.now) (word_of parent)) }
 {
-    let place = first(not_utf8(text), container(d, mem, parent));
-    if is_accepted(place) {
-        text_under(is_root(d, mem, parent), text)
-    } else {
-        place
-    }
+    not_utf8(text)?;
+    container(d, mem, parent)?;
+    text_under(is_root(d, mem, parent), text)
 }
 
-fn check_append_comment(d: Document, mem: &[u64], parent: NodeId, text: &[u8]) -> Verdict
+fn check_append_comment(
+    d: Document,
+    mem: &[u64],
+    parent: NodeId,
+    text: &[u8],
+) -> Result<(), Refusal>
     requires { memory_ok d (length mem.now) ≡ true }
     ensures { verdict_number result ≡ check_append_comment text.now (view_at (decode d mem.now) (word_of parent)) }
 {
-    let place = first(not_utf8(text), container(d, mem, parent));
-    if is_accepted(place) {
-        of_check(productions::checks::check_comment(text))
-    } else {
-        place
-    }
+    not_utf8(text)?;
+    container(d, mem, parent)?;
+    of_check(productions::checks::check_comment(text))
 }
 
-pub fn plan_append_text(d: Document, mem: &[u64], parent: NodeId, text: &[u8]) -> Verdict
+pub fn plan_append_text(
+    d: Document,
+    mem: &[u64],
+    parent: NodeId,
+    text: &[u8],
+) -> Result<(), Refusal>
     requires { Undamaged d mem.now }
     ensures { verdict_number result ≡ refusal_number (step (append-text (word_of parent) text.now) (decode d mem.now)).answer }
 {
-    let checked = check_append_text(d, mem, parent, text);
-    if is_accepted(checked) {
-        text_node_fits(d, mem, Arena::Children, parent, text)
-    } else {
-        checked
-    }
+    check_append_text(d, mem, parent, text)?;
+    text_node_fits(d, mem, Arena::Children, parent, text)
 }
 
-pub fn plan_append_comment(d: Document, mem: &[u64], parent: NodeId, text: &[u8]) -> Verdict
+pub fn plan_append_comment(
+    d: Document,
+    mem: &[u64],
+    parent: NodeId,
+    text: &[u8],
+) -> Result<(), Refusal>
     requires { Undamaged d mem.now }
     ensures { verdict_number result ≡ refusal_number (step (append-comment (word_of parent) text.now) (decode d mem.now)).answer }
 {
-    let checked = check_append_comment(d, mem, parent, text);
-    if is_accepted(checked) {
-        text_node_fits(d, mem, Arena::Children, parent, text)
-    } else {
-        checked
-    }
+    check_append_comment(d, mem, parent, text)?;
+    text_node_fits(d, mem, Arena::Children, parent, text)
 }
 
 fn check_append_pi(
@@ -77,29 +79,28 @@ fn check_append_pi(
     parent: NodeId,
     target: &[u8],
     content: &[u8],
-) -> Verdict
+) -> Result<(), Refusal>
     requires { memory_ok d (length mem.now) ≡ true }
     ensures { verdict_number result ≡ check_append_pi target.now content.now (view_at (decode d mem.now) (word_of parent)) }
 {
-    let place = first(two_not_utf8(target, content), container(d, mem, parent));
-    if is_accepted(place) {
-        of_check(productions::checks::check_pi(target, content))
-    } else {
-        place
-    }
+    two_not_utf8(target, content)?;
+    container(d, mem, parent)?;
+    of_check(productions::checks::check_pi(target, content))
 }
 
 // Full, of a new child with two texts.
-fn pi_fits(d: Document, mem: &[u64], parent: NodeId, target: &[u8], content: &[u8]) -> Verdict
+fn pi_fits(
+    d: Document,
+    mem: &[u64],
+    parent: NodeId,
+    target: &[u8],
+    content: &[u8],
+) -> Result<(), Refusal>
     requires undamaged { Undamaged d mem.now }
     requires parent_value { resolves (decode d mem.now) (word_of parent) ≡ true }
     ensures { verdict_number result ≡ full_unless (two_fit (decode d mem.now) target.now content.now && node_fits (decode d mem.now) children (word_of parent)) }
 {
-    if two_fit(d, mem, target, content) {
-        full_unless(node_fits(d, mem, Arena::Children, parent))
-    } else {
-        full_unless(false)
-    }
+    full_unless(two_fit(d, mem, target, content) && node_fits(d, mem, Arena::Children, parent))
 }
 
 pub fn plan_append_pi(
@@ -108,28 +109,23 @@ pub fn plan_append_pi(
     parent: NodeId,
     target: &[u8],
     content: &[u8],
-) -> Verdict
+) -> Result<(), Refusal>
     requires { Undamaged d mem.now }
     ensures { verdict_number result ≡ refusal_number (step (append-pi (word_of parent) target.now content.now) (decode d mem.now)).answer }
 {
-    let checked = check_append_pi(d, mem, parent, target, content);
-    if is_accepted(checked) {
-        pi_fits(d, mem, parent, target, content)
-    } else {
-        checked
-    }
+    check_append_pi(d, mem, parent, target, content)?;
+    pi_fits(d, mem, parent, target, content)
 }
 
 // A second element under the Root.
-fn second_root(d: Document, mem: &[u64], parent: NodeId) -> Verdict
+fn second_root(d: Document, mem: &[u64], parent: NodeId) -> Result<(), Refusal>
     requires { Undamaged d mem.now }
-    ensures { verdict_number result ≡ refuse_if (any_option is_root (view_at (decode d mem.now) (word_of parent)) && root_taken (decode d mem.now) none) 12 }
+    ensures { verdict_number result ≡ refuse_if (any_option is_root (view_at (decode d mem.now) (word_of parent)) && root_taken (decode d mem.now) None) 12 }
 {
-    if is_root(d, mem, parent) {
-        refuse_if(root_taken(d, mem), Refusal::RootElementExists)
-    } else {
-        Verdict::Accepted
-    }
+    refuse_if(
+        is_root(d, mem, parent) && root_taken(d, mem),
+        Refusal::RootElementExists,
+    )
 }
 
 fn check_append_element(
@@ -138,29 +134,29 @@ fn check_append_element(
     parent: NodeId,
     namespace: &[u8],
     local: &[u8],
-) -> Verdict
+) -> Result<(), Refusal>
     requires { Undamaged d mem.now }
-    ensures { verdict_number result ≡ check_append_element namespace.now local.now (view_at (decode d mem.now) (word_of parent)) (root_taken (decode d mem.now) none) }
+    ensures { verdict_number result ≡ check_append_element namespace.now local.now (view_at (decode d mem.now) (word_of parent)) (root_taken (decode d mem.now) None) }
 {
-    let place = first(two_not_utf8(namespace, local), container(d, mem, parent));
-    if is_accepted(place) {
-        first(second_root(d, mem, parent), check_name(namespace, local))
-    } else {
-        place
-    }
+    two_not_utf8(namespace, local)?;
+    container(d, mem, parent)?;
+    second_root(d, mem, parent)?;
+    check_name(namespace, local)
 }
 
 // Full, of a new element.
-fn element_fits(d: Document, mem: &[u64], parent: NodeId, namespace: &[u8], local: &[u8]) -> Verdict
+fn element_fits(
+    d: Document,
+    mem: &[u64],
+    parent: NodeId,
+    namespace: &[u8],
+    local: &[u8],
+) -> Result<(), Refusal>
     requires undamaged { Undamaged d mem.now }
     requires parent_value { resolves (decode d mem.now) (word_of parent) ≡ true }
     ensures { verdict_number result ≡ full_unless (name_fits_in (decode d mem.now) (name namespace.now local.now) && node_fits (decode d mem.now) children (word_of parent)) }
 {
-    if name_fits(d, mem, namespace, local) {
-        full_unless(node_fits(d, mem, Arena::Children, parent))
-    } else {
-        full_unless(false)
-    }
+    full_unless(name_fits(d, mem, namespace, local) && node_fits(d, mem, Arena::Children, parent))
 }
 
 pub fn plan_append_element(
@@ -169,14 +165,10 @@ pub fn plan_append_element(
     parent: NodeId,
     namespace: &[u8],
     local: &[u8],
-) -> Verdict
+) -> Result<(), Refusal>
     requires { Undamaged d mem.now }
     ensures { verdict_number result ≡ refusal_number (step (append-element (word_of parent) namespace.now local.now) (decode d mem.now)).answer }
 {
-    let checked = check_append_element(d, mem, parent, namespace, local);
-    if is_accepted(checked) {
-        element_fits(d, mem, parent, namespace, local)
-    } else {
-        checked
-    }
+    check_append_element(d, mem, parent, namespace, local)?;
+    element_fits(d, mem, parent, namespace, local)
 }

@@ -1,4 +1,6 @@
 // The checks and Full of the calls on an element's attributes and namespaces.
+#![tactic(auto, using(verdicts::proofs::Verdicts::refused_first, verdicts::proofs::Verdicts::accepted_first, verdicts::proofs::Verdicts::passed_on, crate::proofs::Planned::full_both))]
+
 ghost use Rattle.std.specs.Prelude.{◌≡◌, true, ◌&&◌, length};
 ghost use Rattle.records.specs.Handles.{word_of};
 ghost use Rattle.texts.specs.Pool.{slots_for};
@@ -14,10 +16,11 @@ ghost use Rattle.memory.specs.Undamaged.{Undamaged};
 
 use layout::{Arena, Document};
 use lookup::views::an_element;
+use model::Refusal;
 use records::NodeId;
 use room::full::{name_fits, node_fits, text_node_fits, two_fit};
 use verdicts::arguments::{check_declaration, two_not_utf8};
-use verdicts::verdict::{Verdict, first, full_unless, is_accepted};
+use verdicts::verdict::full_unless;
 
 pub fn check_remove_attribute(
     d: Document,
@@ -25,11 +28,12 @@ pub fn check_remove_attribute(
     element: NodeId,
     namespace: &[u8],
     local: &[u8],
-) -> Verdict
+) -> Result<(), Refusal>
     requires { memory_ok d (length mem.now) ≡ true }
     ensures { verdict_number result ≡ check_remove_attribute namespace.now local.now (view_at (decode d mem.now) (word_of element)) }
 {
-    first(two_not_utf8(namespace, local), an_element(d, mem, element))
+    two_not_utf8(namespace, local)?;
+    an_element(d, mem, element)
 }
 
 pub fn check_declare_namespace(
@@ -38,16 +42,13 @@ pub fn check_declare_namespace(
     element: NodeId,
     prefix: &[u8],
     uri: &[u8],
-) -> Verdict
+) -> Result<(), Refusal>
     requires { memory_ok d (length mem.now) ≡ true }
     ensures { verdict_number result ≡ check_declare_namespace prefix.now uri.now (view_at (decode d mem.now) (word_of element)) }
 {
-    let place = first(two_not_utf8(prefix, uri), an_element(d, mem, element));
-    if is_accepted(place) {
-        check_declaration(prefix, uri)
-    } else {
-        place
-    }
+    two_not_utf8(prefix, uri)?;
+    an_element(d, mem, element)?;
+    check_declaration(prefix, uri)
 }
 
 // Full, of a new attribute.
@@ -58,16 +59,13 @@ pub fn new_attribute_fits(
     namespace: &[u8],
     local: &[u8],
     value: &[u8],
-) -> Verdict
+) -> Result<(), Refusal>
     requires undamaged { Undamaged d mem.now }
     requires element_value { resolves (decode d mem.now) (word_of element) ≡ true }
     ensures { verdict_number result ≡ full_unless (name_fits_in (decode d mem.now) (name namespace.now local.now) && (text_fits (decode d mem.now) (slots_for value.now) 0 (length value.now) && node_fits (decode d mem.now) attributes (word_of element))) }
 {
-    if name_fits(d, mem, namespace, local) {
-        text_node_fits(d, mem, Arena::Attributes, element, value)
-    } else {
-        full_unless(false)
-    }
+    full_unless(name_fits(d, mem, namespace, local))?;
+    text_node_fits(d, mem, Arena::Attributes, element, value)
 }
 
 // Full, of a new namespace node.
@@ -77,14 +75,10 @@ pub fn new_namespace_fits(
     element: NodeId,
     prefix: &[u8],
     uri: &[u8],
-) -> Verdict
+) -> Result<(), Refusal>
     requires undamaged { Undamaged d mem.now }
     requires element_value { resolves (decode d mem.now) (word_of element) ≡ true }
     ensures { verdict_number result ≡ full_unless (two_fit (decode d mem.now) prefix.now uri.now && node_fits (decode d mem.now) namespaces (word_of element)) }
 {
-    if two_fit(d, mem, prefix, uri) {
-        full_unless(node_fits(d, mem, Arena::Namespaces, element))
-    } else {
-        full_unless(false)
-    }
+    full_unless(two_fit(d, mem, prefix, uri) && node_fits(d, mem, Arena::Namespaces, element))
 }

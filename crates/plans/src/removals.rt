@@ -10,23 +10,20 @@ use layout::Document;
 use lookup::views::{a_child, root_kind};
 use memory::read::resolve;
 use model::Refusal;
-use records::{Loaded, NodeId};
-use verdicts::verdict::{Verdict, refuse_if};
+use records::NodeId;
+use verdicts::verdict::refuse_if;
 
-pub fn plan_remove(d: Document, mem: &[u64], node: NodeId) -> Verdict
+pub fn plan_remove(d: Document, mem: &[u64], node: NodeId) -> Result<(), Refusal>
     requires { memory_ok d (length mem.now) ≡ true }
     ensures { verdict_number result ≡ refusal_number (step (remove (word_of node)) (decode d mem.now)).answer }
 {
     match resolve(d, mem, node) {
-        Loaded::Found(found) => {
-            let data = found.data;
-            refuse_if(root_kind(data), Refusal::NotRemovable)
-        }
-        Loaded::NoNode => Verdict::Refused(Refusal::Stale),
+        Some(found) => refuse_if(root_kind(found.data), Refusal::NotRemovable),
+        None => Err(Refusal::Stale),
     }
 }
 
-pub fn plan_detach(d: Document, mem: &[u64], node: NodeId) -> Verdict
+pub fn plan_detach(d: Document, mem: &[u64], node: NodeId) -> Result<(), Refusal>
     requires { memory_ok d (length mem.now) ≡ true }
     ensures { verdict_number result ≡ refusal_number (step (detach (word_of node)) (decode d mem.now)).answer }
 {

@@ -1,6 +1,7 @@
 // The plan of `set_text`, and Full of a replaced text.
+#![tactic(auto, using(verdicts::proofs::Verdicts::refused_first, verdicts::proofs::Verdicts::accepted_first, verdicts::proofs::Verdicts::passed_on, crate::proofs::Replaced::text_live, crate::proofs::Replaced::set_text_live))]
+
 ghost use Rattle.std.specs.Prelude.{◌≡◌, true, ◌≤◌, length};
-ghost use Rattle.std.proofs.Math.Option.{some};
 ghost use Rattle.records.specs.Handles.{word_of};
 ghost use Rattle.model.specs.Doc.{resolves, view_at, bytes_at};
 ghost use Rattle.model.specs.Checks.{check_set_text};
@@ -13,11 +14,12 @@ use layout::Document;
 use lookup::paths::parent_of;
 use lookup::views::{a_text, is_root};
 use memory::read::resolve;
-use memory::stored::{text_counts, text_field, text_limits, texts_words};
-use records::{Chars, Loaded, NodeId, Parent};
+use memory::stored::{text_field, text_pool};
+use model::Refusal;
+use records::NodeId;
 use room::full::{text_fits, texts_fit};
 use verdicts::arguments::{not_utf8, text_under};
-use verdicts::verdict::{Verdict, first, full_unless, is_accepted};
+use verdicts::verdict::full_unless;
 use words::TextSlot;
 
 // Whether a live node's parent is the Root.
@@ -28,67 +30,58 @@ pub fn under_root(d: Document, mem: &[u64], id: NodeId) -> bool
 {
     let word = records::handle::word_of(id);
     match parent_of(d, mem, word) {
-        Parent::None => false,
-        Parent::Of(parent) => is_root(d, mem, parent),
+        None => false,
+        Some(parent) => is_root(d, mem, parent),
     }
 }
 
-fn check_set_text(d: Document, mem: &[u64], id: NodeId, text: &[u8]) -> Verdict
+fn check_set_text(d: Document, mem: &[u64], id: NodeId, text: &[u8]) -> Result<(), Refusal>
     requires { Undamaged d mem.now }
     ensures { verdict_number result ≡ check_set_text text.now (view_at (decode d mem.now) (word_of id)) (under_root (decode d mem.now) (word_of id)) }
 {
-    let place = first(not_utf8(text), a_text(d, mem, id));
-    if is_accepted(place) {
-        text_under(under_root(d, mem, id), text)
-    } else {
-        place
-    }
+    not_utf8(text)?;
+    a_text(d, mem, id)?;
+    text_under(under_root(d, mem, id), text)
 }
 
 // How many bytes the text of a slot has.
 fn text_length(d: Document, mem: &[u64], slot: TextSlot) -> usize
     requires { Undamaged d mem.now }
-    ensures { (result ≡ length (bytes_at (decode d mem.now) (some slot.0))) × (result ≤ d.counts.textbytes) }
+    ensures { (result ≡ length (bytes_at (decode d mem.now) (Some slot.0))) × (result ≤ d.counts.textbytes) }
 {
-    let place = texts::text_place(texts_words(d, mem), text_limits(d), text_counts(d), slot);
-    place.len
+    text_pool(d, mem).place(slot).len
 }
 
 // The old text is counted off; a field with a slot keeps it.
-pub fn replacement_fits(d: Document, mem: &[u64], field: Chars, text: &[u8]) -> bool
+pub fn replacement_fits(d: Document, mem: &[u64], field: Option<TextSlot>, text: &[u8]) -> bool
     requires { Undamaged d mem.now }
     ensures { result ≡ replacement_fits (decode d mem.now) (slot_of field) text.now }
 {
     match field {
-        Chars::Empty => text_fits(d, mem, text),
-        Chars::Expanded(slot) => texts_fit(d, 0, text_length(d, mem, slot), text.len()),
+        None => text_fits(d, mem, text),
+        Some(slot) => texts_fit(d, 0, text_length(d, mem, slot), text.len()),
     }
 }
 
 // Full, of another text of a live node.
-pub fn replacing_fits(d: Document, mem: &[u64], id: NodeId, text: &[u8]) -> Verdict
+pub fn replacing_fits(d: Document, mem: &[u64], id: NodeId, text: &[u8]) -> Result<(), Refusal>
     requires undamaged { Undamaged d mem.now }
     requires id_value { resolves (decode d mem.now) (word_of id) ≡ true }
     ensures { verdict_number result ≡ full_unless (replacement_fits (decode d mem.now) (replaceable_at (decode d mem.now) (word_of id)) text.now) }
 {
     match resolve(d, mem, id) {
-        Loaded::Found(node) => {
-            let data = node.data;
-            let field = text_field(data);
+        Some(node) => {
+            let field = text_field(node.data);
             full_unless(replacement_fits(d, mem, field, text))
         }
-        Loaded::NoNode => Verdict::Accepted,
+        None => Ok(()),
     }
 }
 
-pub fn plan_set_text(d: Document, mem: &[u64], id: NodeId, text: &[u8]) -> Verdict
+pub fn plan_set_text(d: Document, mem: &[u64], id: NodeId, text: &[u8]) -> Result<(), Refusal>
     requires { Undamaged d mem.now }
     ensures { verdict_number result ≡ refusal_number (step (set-text (word_of id) text.now) (decode d mem.now)).answer }
 {
-    let checked = check_set_text(d, mem, id, text);
-    if is_accepted(checked) {
-        replacing_fits(d, mem, id, text)
-    } else {
-        checked
-    }
+    check_set_text(d, mem, id, text)?;
+    replacing_fits(d, mem, id, text)
 }

@@ -1,299 +1,194 @@
-// The reading calls, each with its answer.
-use crate::sink::{put, put_handle, put_handles, put_hex, put_number, put_numbers};
+// The answers of calls, each as a line, and the reading calls with theirs.
+use crate::sink::{Handle, Handles, Hex, Numbers, Sink, Span};
 use layout::{Arena, Document};
 use model::Refusal;
-use reading::answers::{
-    KeyAnswer, KindAnswer, ListAnswer, NameAnswer, NodeAnswer, NodesAnswer, RootAnswer, TruthAnswer,
-};
-use records::{Chars, NodeData, NodeId, Range};
-use words::NameId;
+use names::NamePart;
+use reading::{list, name, node, order, text};
+use records::{NodeData, NodeId, Range};
+use std::fmt::{self, Write};
+use words::{NameId, TextSlot};
 
-pub fn refused(out: &mut [u8], at: usize, why: Refusal) -> usize {
-    let mark = put(out, at, b"! ");
-    let number = put_number(out, mark, model::number(why) as u64);
-    put(out, number, b"\n")
+pub fn refused(out: &mut Sink<'_>, why: Refusal) -> fmt::Result {
+    writeln!(out, "! {}", u8::from(why))
 }
 
-pub fn made(out: &mut [u8], at: usize, id: NodeId) -> usize {
-    let mark = put(out, at, b"h ");
-    let handle = put_handle(out, mark, id);
-    put(out, handle, b"\n")
-}
-
-pub fn truth(out: &mut [u8], at: usize, is: bool) -> usize {
-    if is {
-        return put(out, at, b"b 1\n");
-    }
-    put(out, at, b"b 0\n")
-}
-
-fn nothing(out: &mut [u8], at: usize) -> usize {
-    put(out, at, b"none\n")
-}
-
-fn node(out: &mut [u8], at: usize, answer: NodeAnswer) -> usize {
+// What a call answers, behind its mark.
+pub fn answered<T: fmt::Display + Drop>(
+    out: &mut Sink<'_>,
+    mark: &str,
+    answer: Result<Option<T>, Refusal>,
+) -> fmt::Result {
     match answer {
-        NodeAnswer::Node(id) => made(out, at, id),
-        NodeAnswer::Nothing => nothing(out, at),
-        NodeAnswer::Refused(why) => refused(out, at, why),
+        Ok(Some(value)) => writeln!(out, "{mark}{value}"),
+        Ok(None) => writeln!(out, "none"),
+        Err(why) => refused(out, why),
     }
 }
 
-pub fn root(d: Document, mem: &[u64], out: &mut [u8], at: usize) -> usize {
-    match reading::order::root(d, mem) {
-        RootAnswer::Root(id) => made(out, at, id),
-        RootAnswer::Refused(why) => refused(out, at, why),
+// The handles that a call wrote to the front of a list, as many as it answers.
+pub fn listed(out: &mut Sink<'_>, handles: &[u64], count: Result<usize, Refusal>) -> fmt::Result {
+    answered(
+        out,
+        "l",
+        count.map(|n| Some(Handles(handles.get(..n).unwrap_or(&[])))),
+    )
+}
+
+// A document and its words.
+#[derive(Clone, Copy)]
+pub struct Shown<'a> {
+    pub document: Document,
+    pub mem: &'a [u64],
+}
+
+impl<'a> Shown<'a> {
+    pub fn text(self, text: Option<TextSlot>) -> Hex<'a> {
+        Hex(text::text_bytes(self.document, self.mem, text))
     }
-}
 
-pub fn root_element(d: Document, mem: &[u64], out: &mut [u8], at: usize) -> usize {
-    node(out, at, reading::node::root_element(d, mem))
-}
-
-pub fn parent(d: Document, mem: &[u64], id: NodeId, out: &mut [u8], at: usize) -> usize {
-    node(out, at, reading::node::parent(d, mem, id))
-}
-
-pub fn is_element(d: Document, mem: &[u64], id: NodeId, out: &mut [u8], at: usize) -> usize {
-    match reading::node::is_element(d, mem, id) {
-        TruthAnswer::Is(is) => truth(out, at, is),
-        TruthAnswer::Refused(why) => refused(out, at, why),
-    }
-}
-
-fn list_words(out: &mut [u8], at: usize, words: &[u64]) -> usize {
-    let mark = put(out, at, b"l");
-    let last = put_handles(out, mark, words);
-    put(out, last, b"\n")
-}
-
-// The handles that a call wrote to the front of a list.
-pub fn handles(list: &[u64], answer: NodesAnswer, out: &mut [u8], at: usize) -> usize {
-    match answer {
-        NodesAnswer::Count(n) => list_words(out, at, words_between(list, 0, n)),
-        NodesAnswer::Refused(why) => refused(out, at, why),
-    }
-}
-
-// The handles are written to scratch, whose words no call relies on.
-pub fn nodes(d: Document, mem: &[u64], scratch: &mut [u64], out: &mut [u8], at: usize) -> usize {
-    let answer = reading::nodes::nodes(d, mem, scratch);
-    handles(&scratch[..], answer, out, at)
-}
-
-// The part of a slice with this start and length; the empty part where it lies outside.
-pub fn words_between(words: &[u64], start: usize, len: usize) -> &[u64] {
-    if start <= words.len() {
-        if len <= words.len() - start {
-            let end = start + len;
-            return &words[start..end];
+    pub fn name(self, id: NameId) -> Name<'a> {
+        Name {
+            namespace: name::name_bytes(self.document, self.mem, id, NamePart::Namespace),
+            local: name::name_bytes(self.document, self.mem, id, NamePart::Local),
         }
     }
-    &words[0..0]
-}
 
-fn list(
-    d: Document,
-    mem: &[u64],
-    arena: Arena,
-    answer: ListAnswer,
-    out: &mut [u8],
-    at: usize,
-) -> usize {
-    match answer {
-        ListAnswer::Block(block) => list_words(
+    pub fn put_root(self, out: &mut Sink<'_>) -> fmt::Result {
+        let root = order::root(self.document, self.mem);
+        answered(out, "h ", root.map(|id| Some(Handle(id))))
+    }
+
+    pub fn put_root_element(self, out: &mut Sink<'_>) -> fmt::Result {
+        let found = node::root_element(self.document, self.mem);
+        answered(out, "h ", found.map(|found| found.map(Handle)))
+    }
+
+    pub fn put_parent(self, id: NodeId, out: &mut Sink<'_>) -> fmt::Result {
+        let found = node::parent(self.document, self.mem, id);
+        answered(out, "h ", found.map(|found| found.map(Handle)))
+    }
+
+    pub fn put_is_element(self, id: NodeId, out: &mut Sink<'_>) -> fmt::Result {
+        let found = node::is_element(self.document, self.mem, id);
+        answered(out, "b ", found.map(|is| Some(u8::from(is))))
+    }
+
+    // The handles are written to scratch, whose words no call relies on.
+    pub fn put_nodes(self, scratch: &mut [u64], out: &mut Sink<'_>) -> fmt::Result {
+        let count = reading::nodes::nodes(self.document, self.mem, scratch);
+        listed(out, scratch, count)
+    }
+
+    pub fn put_list(self, arena: Arena, id: NodeId, out: &mut Sink<'_>) -> fmt::Result {
+        let found = list::list(self.document, self.mem, id, arena);
+        let handles = |block| Some(Handles(list::entries(self.document, self.mem, arena, block)));
+        answered(out, "l", found.map(handles))
+    }
+
+    pub fn put_order_key(self, id: NodeId, out: &mut Sink<'_>) -> fmt::Result {
+        let key = order::order_key(self.document, self.mem, id);
+        answered(out, "key ", key)
+    }
+
+    pub fn put_order(self, out: &mut Sink<'_>) -> fmt::Result {
+        writeln!(
             out,
-            at,
-            reading::list::entries(d, mem, arena, block),
-        ),
-        ListAnswer::Refused(why) => refused(out, at, why),
+            "o{}",
+            Numbers(order::order_words(self.document, self.mem))
+        )
+    }
+
+    pub fn put_name(self, number: u64, out: &mut Sink<'_>) -> fmt::Result {
+        let Ok(number) = u32::try_from(number) else {
+            return writeln!(out, "none");
+        };
+        let found = name::name(self.document, self.mem, NameId(number));
+        answered(out, "n ", found.map(|found| found.map(|id| self.name(id))))
+    }
+
+    pub fn put_kind(self, id: NodeId, out: &mut Sink<'_>) -> fmt::Result {
+        let found = text::kind(self.document, self.mem, id);
+        let kind = |data| Kind { shown: self, data };
+        answered(out, "k ", found.map(|found| found.map(kind)))
+    }
+
+    pub fn put_ranges(self, id: NodeId, out: &mut Sink<'_>) -> fmt::Result {
+        let found = text::kind(self.document, self.mem, id);
+        let children = list::children(self.document, self.mem, id).ok();
+        let ranges = |data| Ranges { children, data };
+        answered(out, "r ", found.map(|found| found.map(ranges)))
     }
 }
 
-pub fn children(d: Document, mem: &[u64], id: NodeId, out: &mut [u8], at: usize) -> usize {
-    let answer = reading::list::children(d, mem, id);
-    list(d, mem, Arena::Children, answer, out, at)
+// A name's two parts.
+#[derive(Clone, Copy)]
+pub struct Name<'a> {
+    namespace: &'a [u64],
+    local: &'a [u64],
 }
 
-pub fn attribute_nodes(d: Document, mem: &[u64], id: NodeId, out: &mut [u8], at: usize) -> usize {
-    let answer = reading::list::attribute_nodes(d, mem, id);
-    list(d, mem, Arena::Attributes, answer, out, at)
-}
-
-pub fn namespace_nodes(d: Document, mem: &[u64], id: NodeId, out: &mut [u8], at: usize) -> usize {
-    let answer = reading::list::namespace_nodes(d, mem, id);
-    list(d, mem, Arena::Namespaces, answer, out, at)
-}
-
-pub fn order_key(d: Document, mem: &[u64], id: NodeId, out: &mut [u8], at: usize) -> usize {
-    match reading::order::order_key(d, mem, id) {
-        KeyAnswer::At(key) => {
-            let mark = put(out, at, b"key ");
-            let number = put_number(out, mark, key as u64);
-            put(out, number, b"\n")
-        }
-        KeyAnswer::Nothing => nothing(out, at),
-        KeyAnswer::Refused(why) => refused(out, at, why),
+impl fmt::Display for Name<'_> {
+    fn fmt<W: fmt::Write>(&self, f: &mut fmt::Formatter<W>) -> fmt::Result {
+        write!(f, "{} {}", Hex(self.namespace), Hex(self.local))
     }
 }
 
-pub fn order(d: Document, mem: &[u64], out: &mut [u8], at: usize) -> usize {
-    let mark = put(out, at, b"o");
-    let last = put_numbers(out, mark, reading::order::order_words(d, mem));
-    put(out, last, b"\n")
+// What a node of a document is.
+#[derive(Clone, Copy)]
+struct Kind<'a> {
+    shown: Shown<'a>,
+    data: NodeData,
 }
 
-// A name's two parts, as hex.
-pub fn put_name(d: Document, mem: &[u64], name: NameId, out: &mut [u8], at: usize) -> usize {
-    let namespace = put_hex(out, at, reading::name::namespace_bytes(d, mem, name));
-    let space = put(out, namespace, b" ");
-    put_hex(out, space, reading::name::local_bytes(d, mem, name))
-}
-
-fn named(d: Document, mem: &[u64], name: NameId, out: &mut [u8], at: usize) -> usize {
-    match reading::name::name(d, mem, name) {
-        NameAnswer::Name(found) => {
-            let mark = put(out, at, b"n ");
-            let last = put_name(d, mem, found, out, mark);
-            put(out, last, b"\n")
-        }
-        NameAnswer::Nothing => nothing(out, at),
-        NameAnswer::Refused(why) => refused(out, at, why),
-    }
-}
-
-pub fn name(d: Document, mem: &[u64], number: u64, out: &mut [u8], at: usize) -> usize {
-    if number < 4294967296 {
-        return named(d, mem, NameId(number as u32), out, at);
-    }
-    nothing(out, at)
-}
-
-// A range, `start,len`.
-pub fn put_range(out: &mut [u8], at: usize, range: Range) -> usize {
-    let start = put_number(out, at, range.start as u64);
-    let comma = put(out, start, b",");
-    put_number(out, comma, range.len as u64)
-}
-
-fn element(name: NameId, attributes: Range, namespaces: Range, out: &mut [u8], at: usize) -> usize {
-    let mark = put(out, at, b"k element ");
-    let number = name.0;
-    let first = put_number(out, mark, number as u64);
-    let space = put(out, first, b" ");
-    let second = put_range(out, space, attributes);
-    let gap = put(out, second, b" ");
-    put_range(out, gap, namespaces)
-}
-
-fn attribute(
-    d: Document,
-    mem: &[u64],
-    name: NameId,
-    value: Chars,
-    out: &mut [u8],
-    at: usize,
-) -> usize {
-    let mark = put(out, at, b"k attr ");
-    let number = name.0;
-    let first = put_number(out, mark, number as u64);
-    let space = put(out, first, b" ");
-    put_hex(out, space, reading::text::text_bytes(d, mem, value))
-}
-
-fn one_text(
-    d: Document,
-    mem: &[u64],
-    kind: &[u8],
-    text: Chars,
-    out: &mut [u8],
-    at: usize,
-) -> usize {
-    let mark = put(out, at, kind);
-    put_hex(out, mark, reading::text::text_bytes(d, mem, text))
-}
-
-fn two_texts(
-    d: Document,
-    mem: &[u64],
-    kind: &[u8],
-    first: Chars,
-    second: Chars,
-    out: &mut [u8],
-    at: usize,
-) -> usize {
-    let text = one_text(d, mem, kind, first, out, at);
-    one_text(d, mem, b" ", second, out, text)
-}
-
-fn kind_data(d: Document, mem: &[u64], data: NodeData, out: &mut [u8], at: usize) -> usize {
-    match data {
-        NodeData::Root => put(out, at, b"k root"),
-        NodeData::Element {
-            name,
-            attributes,
-            namespaces,
-        } => element(name, attributes, namespaces, out, at),
-        NodeData::Attr { name, value } => attribute(d, mem, name, value, out, at),
-        NodeData::Text(text) => one_text(d, mem, b"k text ", text, out, at),
-        NodeData::Comment(text) => one_text(d, mem, b"k comment ", text, out, at),
-        NodeData::Namespace { prefix, uri } => {
-            two_texts(d, mem, b"k namespace ", prefix, uri, out, at)
-        }
-        NodeData::ProcessingInstruction { target, data } => {
-            two_texts(d, mem, b"k pi ", target, data, out, at)
+impl fmt::Display for Kind<'_> {
+    fn fmt<W: fmt::Write>(&self, f: &mut fmt::Formatter<W>) -> fmt::Result {
+        let text = |text| self.shown.text(text);
+        match self.data {
+            NodeData::Root => write!(f, "root"),
+            NodeData::Element {
+                name,
+                attributes,
+                namespaces,
+            } => write!(
+                f,
+                "element {} {} {}",
+                name.0,
+                Span(attributes),
+                Span(namespaces)
+            ),
+            NodeData::Attr { name, value } => write!(f, "attr {} {}", name.0, text(value)),
+            NodeData::Text(t) => write!(f, "text {}", text(t)),
+            NodeData::Comment(t) => write!(f, "comment {}", text(t)),
+            NodeData::Namespace { prefix, uri } => {
+                write!(f, "namespace {} {}", text(prefix), text(uri))
+            }
+            NodeData::ProcessingInstruction { target, data } => {
+                write!(f, "pi {} {}", text(target), text(data))
+            }
         }
     }
 }
 
-pub fn kind(d: Document, mem: &[u64], id: NodeId, out: &mut [u8], at: usize) -> usize {
-    match reading::text::kind(d, mem, id) {
-        KindAnswer::Kind(data) => {
-            let last = kind_data(d, mem, data, out, at);
-            put(out, last, b"\n")
-        }
-        KindAnswer::Nothing => nothing(out, at),
-        KindAnswer::Refused(why) => refused(out, at, why),
-    }
+// The children's range, and the other two, which are an element's.
+#[derive(Clone, Copy)]
+struct Ranges {
+    children: Option<Range>,
+    data: NodeData,
 }
 
-// The children's range behind a space; the other two are an element's.
-fn put_block(out: &mut [u8], at: usize, answer: ListAnswer) -> usize {
-    let space = put(out, at, b" ");
-    match answer {
-        ListAnswer::Block(block) => put_range(out, space, block),
-        ListAnswer::Refused(_) => put(out, space, b"-"),
-    }
-}
-
-fn put_other_ranges(data: NodeData, out: &mut [u8], at: usize) -> usize {
-    match data {
-        NodeData::Element {
-            name: _,
-            attributes,
-            namespaces,
-        } => {
-            let first = put_block(out, at, ListAnswer::Block(attributes));
-            put_block(out, first, ListAnswer::Block(namespaces))
+impl fmt::Display for Ranges {
+    fn fmt<W: fmt::Write>(&self, f: &mut fmt::Formatter<W>) -> fmt::Result {
+        match self.children {
+            Some(children) => write!(f, "{}", Span(children))?,
+            None => write!(f, "-")?,
         }
-        NodeData::Root => put(out, at, b" - -"),
-        NodeData::Attr { .. } => put(out, at, b" - -"),
-        NodeData::Text(_) => put(out, at, b" - -"),
-        NodeData::Comment(_) => put(out, at, b" - -"),
-        NodeData::Namespace { .. } => put(out, at, b" - -"),
-        NodeData::ProcessingInstruction { .. } => put(out, at, b" - -"),
-    }
-}
-
-pub fn ranges(d: Document, mem: &[u64], id: NodeId, out: &mut [u8], at: usize) -> usize {
-    match reading::text::kind(d, mem, id) {
-        KindAnswer::Kind(data) => {
-            let mark = put(out, at, b"r");
-            let children = put_block(out, mark, reading::list::children(d, mem, id));
-            let last = put_other_ranges(data, out, children);
-            put(out, last, b"\n")
+        match self.data {
+            NodeData::Element {
+                attributes,
+                namespaces,
+                ..
+            } => write!(f, " {} {}", Span(attributes), Span(namespaces)),
+            _ => write!(f, " - -"),
         }
-        KindAnswer::Nothing => nothing(out, at),
-        KindAnswer::Refused(why) => refused(out, at, why),
     }
 }

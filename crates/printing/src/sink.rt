@@ -1,97 +1,126 @@
-// What waits to be written: the bytes before index at in a lent buffer. Each function answers where what waits then ends.
-use records::NodeId;
+// What waits to be written, and how handles and bytes are written.
+ghost use Rattle.std.specs.Prelude.{◌≤◌, length};
 
-pub fn flush(out: &[u8], at: usize) {
-    if at <= out.len() {
-        io::write_all(1, &out[0..at]);
+use records::handle::id_of;
+use records::{NodeId, Range};
+use std::fmt;
+
+// What waits are the first bytes of the lent ones.
+#[derive(Drop)]
+pub struct Sink<'a> {
+    bytes: &'a mut [u8],
+    waiting: usize,
+    ghost in_range: { waiting ≤ length bytes.now },
+}
+
+impl<'a> Sink<'a> {
+    pub fn new(bytes: &'a mut [u8]) -> Sink<'a> {
+        Sink { bytes, waiting: 0 }
+    }
+
+    // Nothing waits any more.
+    pub fn flush(&mut self) {
+        io::write_all(1, &self.bytes[..self.waiting]);
+        self.waiting = 0;
     }
 }
 
-// What waits goes out first where it leaves no room for the text.
-pub fn put(out: &mut [u8], at: usize, text: &[u8]) -> usize {
-    if at <= out.len() {
-        if text.len() <= out.len() - at {
-            return lines::write::put_bytes(out, at, text);
+impl fmt::Write for Sink<'_> {
+    // What waits goes out first where it leaves no room for the text.
+    fn write_str(&mut self, text: &str) -> fmt::Result {
+        if self.bytes.len() - self.waiting < text.len() {
+            self.flush();
         }
+        let end = self.waiting + text.len();
+        if end <= self.bytes.len() {
+            self.bytes[self.waiting..end].copy_from_slice(text.as_bytes());
+            self.waiting = end;
+        } else {
+            io::write_all(1, text.as_bytes());
+        }
+        Ok(())
     }
-    flush(&out[..], at);
-    if text.len() <= out.len() {
-        return lines::write::put_bytes(out, 0, text);
-    }
-    io::write_all(1, text);
-    0
-}
-
-pub fn put_number(out: &mut [u8], at: usize, number: u64) -> usize {
-    let mut digits = [0u8; 20];
-    let n = io::decimal(number, &mut digits);
-    put(out, at, &digits[..n])
 }
 
 // A handle, `index:generation`.
-pub fn put_handle(out: &mut [u8], at: usize, id: NodeId) -> usize {
-    let index = put_number(out, at, id.index as u64);
-    let colon = put(out, index, b":");
-    put_number(out, colon, id.generation as u64)
+#[derive(Clone, Copy)]
+pub struct Handle(pub NodeId);
+
+impl Handle {
+    // The handle that a word of a list holds.
+    pub fn of(word: u64) -> Handle {
+        Handle(id_of(word))
+    }
 }
 
-// A word of a text: a byte in two digits.
-fn put_byte(out: &mut [u8], at: usize, word: u64) -> usize {
-    let mut digits = [0u8; 16];
-    let n = io::hex(word, 2, &mut digits);
-    put(out, at, &digits[..n])
+impl fmt::Display for Handle {
+    fn fmt<W: fmt::Write>(&self, f: &mut fmt::Formatter<W>) -> fmt::Result {
+        let NodeId { index, generation } = self.0;
+        write!(f, "{index}:{generation}")
+    }
+}
+
+// The start and the length of a range.
+#[derive(Clone, Copy)]
+pub struct Span(pub Range);
+
+impl fmt::Display for Span {
+    fn fmt<W: fmt::Write>(&self, f: &mut fmt::Formatter<W>) -> fmt::Result {
+        let Range { start, len } = self.0;
+        write!(f, "{start},{len}")
+    }
 }
 
 // Bytes, one a word: `x` and hex.
-pub fn put_hex(out: &mut [u8], at: usize, words: &[u64]) -> usize {
-    let mut next = put(out, at, b"x");
-    let mut k = 0;
-    while k < words.len() {
-        next = put_byte(out, next, words[k]);
-        k += 1;
+#[derive(Clone, Copy)]
+pub struct Hex<'a>(pub &'a [u64]);
+
+impl fmt::Display for Hex<'_> {
+    fn fmt<W: fmt::Write>(&self, f: &mut fmt::Formatter<W>) -> fmt::Result {
+        write!(f, "x")?;
+        for word in self.0 {
+            write!(f, "{word:02x}")?;
+        }
+        Ok(())
     }
-    next
 }
 
 // Numbers, each behind a space.
-pub fn put_numbers(out: &mut [u8], at: usize, words: &[u64]) -> usize {
-    let mut next = at;
-    let mut k = 0;
-    while k < words.len() {
-        let space = put(out, next, b" ");
-        next = put_number(out, space, words[k]);
-        k += 1;
+#[derive(Clone, Copy)]
+pub struct Numbers<'a>(pub &'a [u64]);
+
+impl fmt::Display for Numbers<'_> {
+    fn fmt<W: fmt::Write>(&self, f: &mut fmt::Formatter<W>) -> fmt::Result {
+        for word in self.0 {
+            write!(f, " {word}")?;
+        }
+        Ok(())
     }
-    next
 }
 
 // Handles, each behind a space.
-pub fn put_handles(out: &mut [u8], at: usize, words: &[u64]) -> usize {
-    let mut next = at;
-    let mut k = 0;
-    while k < words.len() {
-        let space = put(out, next, b" ");
-        next = put_handle(out, space, records::handle::id_of(words[k]));
-        k += 1;
-    }
-    next
-}
+#[derive(Clone, Copy)]
+pub struct Handles<'a>(pub &'a [u64]);
 
-fn put_comma(out: &mut [u8], at: usize, k: usize) -> usize {
-    if k == 0 {
-        return at;
+impl fmt::Display for Handles<'_> {
+    fn fmt<W: fmt::Write>(&self, f: &mut fmt::Formatter<W>) -> fmt::Result {
+        for word in self.0 {
+            write!(f, " {}", Handle::of(*word))?;
+        }
+        Ok(())
     }
-    put(out, at, b",")
 }
 
 // Handles, with commas between them.
-pub fn put_joined(out: &mut [u8], at: usize, words: &[u64]) -> usize {
-    let mut next = at;
-    let mut k = 0;
-    while k < words.len() {
-        let comma = put_comma(out, next, k);
-        next = put_handle(out, comma, records::handle::id_of(words[k]));
-        k += 1;
+#[derive(Clone, Copy)]
+pub struct Joined<'a>(pub &'a [u64]);
+
+impl fmt::Display for Joined<'_> {
+    fn fmt<W: fmt::Write>(&self, f: &mut fmt::Formatter<W>) -> fmt::Result {
+        for (k, word) in self.0.iter().enumerate() {
+            let comma = if k == 0 { "" } else { "," };
+            write!(f, "{comma}{}", Handle::of(*word))?;
+        }
+        Ok(())
     }
-    next
 }

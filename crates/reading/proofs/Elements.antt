@@ -1,14 +1,14 @@
 -- The first element of a block, entry by entry.
 -- Assumes nothing.
-use mathlib.Core.Path.{◌≡◌, ap, ◌∙◌}
-use mathlib.Core.Bool.{Bool, true, false}
-use mathlib.Core.Option.{none, some}
+use Rattle.std.specs.Prelude.{Some}
+use mathlib.Core.Path.{◌≡◌, sym, ap, ◌∙◌}
+use mathlib.Core.Bool.{Bool, true, false, cond}
 use mathlib.Core.List.{List}
-use Prim.Native.Nat.{ℕ, ◌+◌, ◌-◌, ◌≤◌, ◌<◌}
-use lib.ListN.{length, get_or}
-use Rattle.words.specs.Parts.{part}
+use Prim.Native.Nat.{ℕ, suc, ◌+◌, ◌<◌}
+use native.Mathlib.Numerals.{add-one}
+use lib.ListN.{length, get_or, drop}
+use lib.Seq.{drop-cons}
 use Rattle.words.specs.Lists.{find}
-use Rattle.words.proofs.Searches.{find-here, find-on, find-end}
 use Rattle.blocks.specs.Arena.{Block, list_of}
 use Rattle.records.specs.Handles.{word_of, id_of}
 use Rattle.records.specs.declared.NodeId.{NodeId}
@@ -19,19 +19,18 @@ use Rattle.model.specs.Calls.{Answered, node, step, root-element}
 use Rattle.layout.specs.declared.Document.{Document}
 use Rattle.memory.specs.Decode.{arena_in, decode}
 
-module _ (p : ℕ → Bool) (l : List ℕ) (s n k : ℕ) (inv : find p (part s n l) ≡ find p (part (s + k) (n - k) l)) where
-  pub find-passed : n ≤ k → ◌≡◌ {A = Answered} (node none) (node (find p (part s n l)))
-  find-passed h = ap node (find-end p l s n k h inv)
+-- what is found in a list is what is found behind the entries that were looked at
+module _ (p : ℕ → Bool) (l : List ℕ) (k : ℕ) (inv : find p l ≡ find p (drop k l)) (h : k < length l) (id : NodeId) (i : id ≡ id_of (get_or l k 0)) (t : Bool) (q : t ≡ p (word_of id)) where
+  looked : find p l ≡ cond t (Some (word_of id)) (find p (drop (k + 1) l))
+  looked =
+      let same : get_or l k 0 ≡ word_of id = sym (ap word_of i ∙ word_of-id_of (get_or l k 0)) in
+      rw (q, add-one) (inv ∙ ap (find p) (drop-cons l k 0 h) ∙ ap (λ (x : ℕ). cond (p x) (Some x) (find p (drop (suc k) l))) same)
 
-  module _ (h : k < n) (f : s + n ≤ length l) (word : ℕ) (id : NodeId) (t : Bool) (e : word ≡ get_or l (s + k) 0) (i : id ≡ id_of word) (q : t ≡ p (word_of id)) where
-    same_word : word_of id ≡ get_or l (s + k) 0
-    same_word = ap word_of i ∙ word_of-id_of word ∙ e
+  pub found-here : t ≡ true → Some (word_of id) ≡ find p l
+  found-here y = sym (looked ∙ rw y)
 
-    pub find-shown : t ≡ true → ◌≡◌ {A = Answered} (node (some (word_of id))) (node (find p (part s n l)))
-    find-shown y = ap node (find-here p l s n k h f (word_of id) same_word inv t q y)
-
-    pub find-next : t ≡ false → find p (part s n l) ≡ find p (part (s + (k + 1)) (n - (k + 1)) l)
-    find-next y = find-on p l s n k h f (word_of id) same_word inv t q y
+  pub found-later : t ≡ false → find p l ≡ find p (drop (k + 1) l)
+  found-later y = looked ∙ rw y
 
 -- the root element is the first of the Root's list
 pub root-shown : (d : Document) (mem : List ℕ) (b : Block) (a : Answered) → b ≡ shown_block (decode d mem) children root_handle

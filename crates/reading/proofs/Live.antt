@@ -1,7 +1,7 @@
 -- The list of all live nodes, slot by slot.
 -- Assumes nothing.
 use mathlib.Core.Path.{◌≡◌, refl, sym, ap, ◌∙◌}
-use mathlib.Core.Bool.{Bool, true, false, ◌&&◌, cond, true≢false}
+use mathlib.Core.Bool.{Bool, true, false, cond, true≢false}
 use mathlib.Core.List.{List, [], ◌∷◌, ◌++◌, append-nil}
 use Prim.Native.Nat.{ℕ, zero, suc, ◌+◌, ◌*◌, ◌≤◌, ◌<◌}
 use native.Mathlib.Nat.{add-zero}
@@ -24,7 +24,8 @@ use Rattle.layout.specs.Layout.{memory_ok}
 use Rattle.memory.specs.Decode.{slots_part, slots_made, pool_in, names_in, lengths_add, decode}
 use Rattle.memory.proofs.Columns.{length-gens, handle-in}
 use Rattle.memory.proofs.Living.{live-wide}
-use Rattle.reading.specs.declared.answers.NodesAnswer.TheVariants.{Count, Refused}
+use Rattle.std.specs.Prelude.{Ok, Err}
+use Rattle.model.specs.declared.Refusal.{Refusal}
 use Rattle.model.specs.declared.Refusal.TheVariants.{BadBuffers}
 use Rattle.reading.specs.Nodes.{live_entry}
 use Rattle.reading.specs.Contract.{nodes_ok, NodesRead}
@@ -127,29 +128,23 @@ module _ (d : Document) (mem : List ℕ) where
   nodes-short = omega (arith, ap length all-below, below-short (decode d mem) (slots_made d))
 
   -- ---- the call
-  module _ (out : List ℕ) (t : Bool) (e : t ≡ nodes_ok d mem out) where
-    pub nodes-room : t ≡ true → (memory_ok d (length mem) ≡ true) × (d.limits.nodes ≤ length out)
+  module _ (out : List ℕ) where
+    pub nodes-room : nodes_ok d mem out ≡ true → (memory_ok d (length mem) ≡ true) × (d.limits.nodes ≤ length out)
     nodes-room y = (
-      and_left (memory_ok d (length mem)) (leb d.limits.nodes (length out)) (sym e ∙ y),
-      leb-true _ _ (and_right (memory_ok d (length mem)) (leb d.limits.nodes (length out)) (sym e ∙ y)),
+      and_left (memory_ok d (length mem)) (leb d.limits.nodes (length out)) y,
+      leb-true _ _ (and_right (memory_ok d (length mem)) (leb d.limits.nodes (length out)) y),
     )
 
-    pub nodes-refused : (after : List ℕ) → t ≡ false → after ≡ out → NodesRead d mem out after (Refused BadBuffers)
-    nodes-refused after f q = record { answer = sym (rw (← e, f)); buffer = q ∙ sym (rw (← e, f)) }
+    pub nodes-refused : (why : Refusal) → (nodes_ok d mem out ≡ false) × (why ≡ BadBuffers) → NodesRead d mem out out (Err why)
+    nodes-refused why f = record { answer = rw (f.0, f.1) refl; buffer = rw f.0 refl }
 
-    pub nodes-written : (after : List ℕ) → t ≡ true → (n : ℕ) → (n ≡ length (live_nodes (decode d mem))) × (after ≡ put 0 (live_nodes (decode d mem)) out) → NodesRead d mem out after (Count n)
+    pub nodes-written : (after : List ℕ) → nodes_ok d mem out ≡ true → (n : ℕ) → (n ≡ length (live_nodes (decode d mem))) × (after ≡ put 0 (live_nodes (decode d mem)) out) → NodesRead d mem out after (Ok n)
     unfolding part
     nodes-written after y n q =
         let L = live_nodes (decode d mem) in
         let room = (nodes-room y).1 in
         let front : take n after ≡ L = rw (q.0, q.1) (part-put-same out 0 L (omega arith)) in
         record {
-          answer = ap every_node front ∙ sym (rw (← e, y));
-          buffer = q.1 ∙ sym (rw (← e, y));
+          answer = ap every_node front ∙ sym (rw y);
+          buffer = q.1 ∙ sym (rw y);
         }
-
-pub nodes-no : (d : Document) (mem out : ℕ) (ok : Bool) → ok ≡ memory_ok d mem → ok ≡ false → false ≡ (memory_ok d mem && leb d.limits.nodes out)
-nodes-no d mem out ok e f = sym (rw (← e, f))
-
-pub nodes-yes : (d : Document) (mem out : ℕ) (ok : Bool) → ok ≡ memory_ok d mem → ok ≡ true → leb d.limits.nodes out ≡ (memory_ok d mem && leb d.limits.nodes out)
-nodes-yes d mem out ok e y = sym (rw (← e, y))

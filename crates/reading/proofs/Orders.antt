@@ -1,8 +1,8 @@
 -- The order words, as a part of the memory.
 -- Assumes nothing.
 use mathlib.Core.Path.{◌≡◌, sym, ap, ◌∙◌}
-use mathlib.Core.Bool.{Bool, true, false}
-use mathlib.Core.List.{List, []}
+use mathlib.Core.Bool.{true}
+use mathlib.Core.List.{List}
 use Prim.Native.Nat.{ℕ, ◌+◌, ◌*◌, ◌≤◌, ◌<◌}
 use native.Mathlib.Omega.{arith}
 use lib.ListN.{length, get_or, take}
@@ -47,16 +47,9 @@ module _ (d : Document) (mem : List ℕ) where
       ∙ ap (λ (m : ℕ). get_or mem m 0) e
       ∙ sym (get_or-part mem (n * 14) k i 0 j))
 
-  module _ (t : Bool) (e : t ≡ memory_ok d (length mem)) where
-    pub order-inside : t ≡ true → (l : List ℕ) → l ≡ part (order_start d.limits.nodes) (slots_made d) mem → l ≡ order_shown d mem
-    unfolding order_shown
-    order-inside y l q =
-        let ok : memory_ok d (length mem) ≡ true = sym e ∙ y in
-        q ∙ sym (words-there (slots_made d) (omega arith) (sizes d (length mem) ok).slots) ∙ sym (rw ok)
-
-    pub order-outside : t ≡ false → [] ≡ order_shown d mem
-    unfolding order_shown
-    order-outside f = sym (rw (← e, f))
+  pub order-inside : memory_ok d (length mem) ≡ true → (l : List ℕ) → l ≡ part (order_start d.limits.nodes) (slots_made d) mem → l ≡ order_shown d mem
+  unfolding order_shown
+  order-inside ok l q = q ∙ sym (words-there (slots_made d) (omega arith) (sizes d (length mem) ok).slots) ∙ sym (rw ok)
 
   -- they are what `document_order` answers
   pub order-shown : memory_ok d (length mem) ≡ true → order_shown d mem ≡ take (length (decode d mem).gens) (decode d mem).order

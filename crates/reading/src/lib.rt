@@ -1,7 +1,7 @@
 // The reading calls: they test 4 only, change nothing, and cost what they show.
-#![tactic(auto)]
+#![tactic(auto, unfolding(crate::specs::Contract::reads, crate::specs::Answers::entries_shown, crate::specs::Answers::text_bytes, crate::specs::Answers::name_bytes, crate::specs::Answers::order_shown))]
 
-pub mod answers;
+pub mod buffers;
 pub mod list;
 pub mod name;
 pub mod node;

@@ -1,61 +1,53 @@
 // The root node's handle, and the position of a node in document order.
-ghost use Rattle.std.specs.Prelude.{◌≡◌, true, cond, ◌<◌, length};
+ghost use Rattle.std.specs.Prelude.{◌≡◌, cond, ◌<◌};
 ghost use Rattle.records.specs.Handles.{word_of};
 ghost use Rattle.slots.specs.Regions.{order_at};
 ghost use Rattle.model.specs.Calls.{key, key_of, refused, root-of, order-key};
-ghost use Rattle.layout.specs.Layout.{memory_ok};
 ghost use Rattle.memory.specs.Decode.{slots_part};
 ghost use Rattle.reading.specs.Answers.{of_root, of_key, order_shown};
 ghost use Rattle.reading.specs.Contract.{reads};
 
-use crate::answers::{KeyAnswer, RootAnswer};
 use layout::Document;
+use memory::view::View;
 use model::Refusal;
 use records::NodeId;
-use slots::OrderKey;
 use words::NodeSlot;
 
+// The Root's handle.
+pub const ROOT: NodeId = NodeId {
+    index: 0,
+    generation: 0,
+};
+
 // Rules out another handle than (0, 0), and one where the memory is too short.
-pub fn root(d: Document, mem: &[u64]) -> RootAnswer
+pub fn root(d: Document, mem: &[u64]) -> Result<NodeId, Refusal>
     ensures { of_root result ≡ reads root-of d mem.now }
 {
-    if layout::memory_ok(d, mem.len()) {
-        RootAnswer::Root(NodeId {
-            index: 0,
-            generation: 0,
-        })
-    } else {
-        RootAnswer::Refused(Refusal::BadBuffers)
-    }
+    View::of(d, mem)?;
+    Ok(ROOT)
 }
 
 // The key of a live node's slot: an order that is not current has none to show.
-fn live_key(d: Document, mem: &[u64], slot: NodeSlot) -> KeyAnswer
-    requires { (memory_ok d (length mem.now) ≡ true) × (slot.0 < d.limits.nodes) }
-    ensures { of_key result ≡ cond d.current (key (key_of (order_at d.limits.nodes (slots_part d mem.now) slot.0))) (refused 15) }
+fn live_key(view: &View<'_>, slot: NodeSlot) -> Result<Option<u32>, Refusal>
+    requires { slot.0 < view.now.document.limits.nodes }
+    ensures { of_key result ≡ cond view.now.document.current (key (key_of (order_at view.now.document.limits.nodes (slots_part view.now.document view.now.words.now) slot.0))) (refused 15) }
 {
-    if d.current {
-        match memory::read::order_key(d, mem, slot) {
-            OrderKey::None => KeyAnswer::Nothing,
-            OrderKey::At(n) => KeyAnswer::At(n),
-        }
+    if view.document.current {
+        Ok(view.order_key(slot))
     } else {
-        KeyAnswer::Refused(Refusal::OrderStale)
+        Err(Refusal::OrderStale)
     }
 }
 
 // Rules out an old key while the order is not current, and OrderStale for a stale handle.
-pub fn order_key(d: Document, mem: &[u64], id: NodeId) -> KeyAnswer
+pub fn order_key(d: Document, mem: &[u64], id: NodeId) -> Result<Option<u32>, Refusal>
     ensures { of_key result ≡ reads (order-key (word_of id)) d mem.now }
 {
-    if layout::memory_ok(d, mem.len()) {
-        if memory::read::resolves(d, mem, id) {
-            live_key(d, mem, NodeSlot(id.index))
-        } else {
-            KeyAnswer::Nothing
-        }
+    let view = View::of(d, mem)?;
+    if view.resolves(id) {
+        live_key(&view, NodeSlot(id.index))
     } else {
-        KeyAnswer::Refused(Refusal::BadBuffers)
+        Ok(None)
     }
 }
 
@@ -63,9 +55,8 @@ pub fn order_key(d: Document, mem: &[u64], id: NodeId) -> KeyAnswer
 pub fn order_words(d: Document, mem: &[u64]) -> &[u64]
     ensures { result.now ≡ order_shown d mem.now }
 {
-    if layout::memory_ok(d, mem.len()) {
-        memory::parts::order_words(d, mem)
-    } else {
-        &mem[..0]
+    match View::of(d, mem) {
+        Ok(view) => view.order_words(),
+        Err(_) => &[],
     }
 }

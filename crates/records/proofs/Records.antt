@@ -1,5 +1,8 @@
 -- Words and nodes are one to one: the test says rule 1, a node whose numbers fit comes back from its words, and words that are a node come back from it.
 -- Assumes nothing.
+use Rattle.words.specs.declared.TextSlot.{TextSlot}
+use Rattle.records.specs.declared.NodeId.{NodeId}
+use Rattle.std.specs.Prelude.{Option, None, Some}
 use mathlib.Core.Path.{◌≡◌, refl, sym, ap, ◌∙◌}
 use mathlib.Core.Bool.{Bool, true, false, ◌&&◌, not, cond}
 use Prim.Native.Nat.{ℕ, zero, suc, ◌+◌, ◌-◌, ◌≤◌}
@@ -10,14 +13,9 @@ use lib.Dec.{eqb, leb}
 use borrow.Author.Tests.{leb-true, le-leb, eq-eqb, ne_eqb}
 use Rattle.words.proofs.Tests.{and_left, and_right, and_both}
 use Rattle.records.specs.declared.Range.{Range}
-use Rattle.records.specs.declared.Chars.{Chars}
-use Rattle.records.specs.declared.Chars.TheVariants.{Empty, Expanded}
-use Rattle.records.specs.declared.Parent.{Parent}
-use Rattle.records.specs.declared.Parent.TheVariants.{None, Of}
 use Rattle.records.specs.declared.NodeData.{NodeData}
 use Rattle.records.specs.declared.NodeData.TheVariants.{Root, Element, Attr, Text, Comment, Namespace, ProcessingInstruction}
 use Rattle.records.specs.declared.Node.{Node}
-use Rattle.records.specs.declared.Loaded.TheVariants.{Found, NoNode}
 use Rattle.records.specs.declared.Span.{Span}
 use Rattle.records.specs.declared.NodeRecord.{NodeRecord}
 use Rattle.records.specs.Records.{chars_word, parent_word, parent_generation, no_span, kind_word, name_word, first_text, second_text, attributes_span, namespaces_span, record_of, has_name, has_first, has_second, has_children, has_lists, most, is_span, is_data, is_parent, are_ranges, is_node, chars_of, parent_of, data_of, found_node, node_of}
@@ -68,9 +66,9 @@ is-node r w =
 
 -- ---- single words
 
-chars-back : (c : Chars) → chars_of (chars_word c) ≡ c
-chars-back Empty = refl
-chars-back (Expanded t) = rw (ne_eqb (t.0 + 1) 0 (omega arith), add-sub_cancel t.0 1)
+chars-back : (c : Option TextSlot) → chars_of (chars_word c) ≡ c
+chars-back None = refl
+chars-back (Some t) = rw (ne_eqb (t.0 + 1) 0 (omega arith), add-sub_cancel t.0 1)
 
 word-chars : (w : ℕ) → chars_word (chars_of w) ≡ w
 word-chars w = go (ℕ_discrete w 0)
@@ -81,9 +79,9 @@ word-chars w = go (ℕ_discrete w 0)
         let q : w - 1 + 1 ≡ w = omega arith in
         rw (ne_eqb w 0 ne) q
 
-parent-back : (p : Parent) → parent_of (parent_word p) (parent_generation p) ≡ p
+parent-back : (p : Option NodeId) → parent_of (parent_word p) (parent_generation p) ≡ p
 parent-back None = refl
-parent-back (Of h) = rw (ne_eqb (h.index + 1) 0 (omega arith), add-sub_cancel h.index 1)
+parent-back (Some h) = rw (ne_eqb (h.index + 1) 0 (omega arith), add-sub_cancel h.index 1)
 
 -- a parent's two words; where there is no parent, its generation is 0
 word-parent : (w g : ℕ) → g ≤ most (not (eqb w 0)) 4294967295 → (parent_word (parent_of w g) ≡ w) × (parent_generation (parent_of w g) ≡ g)
@@ -157,11 +155,11 @@ words_back r w =
     }
 
 -- words that are a node are those of the node
-pub record-back : (r : NodeRecord) (n : Node) → node_of r ≡ Found n → record_of n ≡ r
+pub record-back : (r : NodeRecord) (n : Node) → node_of r ≡ Some n → record_of n ≡ r
 unfolding node_of
 record-back r n e = go (is_node r) refl e
   where
-    go : (t : Bool) → is_node r ≡ t → cond t (Found (found_node r)) NoNode ≡ Found n → record_of n ≡ r
+    go : (t : Bool) → is_node r ≡ t → cond t (Some (found_node r)) None ≡ Some n → record_of n ≡ r
     go true h q =
         let s : found_node r ≡ n = cc in
         ap record_of (sym s) ∙ words_back r (within r h)
@@ -169,15 +167,15 @@ record-back r n e = go (is_node r) refl e
         let z : ◌≡◌ {A = ℕ} 0 1 = cc in
         absurd (omega arith)
 
-pub is-node-found : (r : NodeRecord) → is_node r ≡ true → node_of r ≡ Found (found_node r)
+pub is-node-found : (r : NodeRecord) → is_node r ≡ true → node_of r ≡ Some (found_node r)
 unfolding node_of
 is-node-found r h = rw h
 
-pub found-is-node : (r : NodeRecord) (n : Node) → node_of r ≡ Found n → is_node r ≡ true
+pub found-is-node : (r : NodeRecord) (n : Node) → node_of r ≡ Some n → is_node r ≡ true
 unfolding node_of
 found-is-node r n e = go (is_node r) refl e
   where
-    go : (t : Bool) → is_node r ≡ t → cond t (Found (found_node r)) NoNode ≡ Found n → is_node r ≡ true
+    go : (t : Bool) → is_node r ≡ t → cond t (Some (found_node r)) None ≡ Some n → is_node r ≡ true
     go true h q = h
     go false h q =
         let z : ◌≡◌ {A = ℕ} 0 1 = cc in
@@ -198,29 +196,29 @@ data-back n = go n.«data»
     go (Namespace p u) = rw (chars-back p, chars-back u)
     go (ProcessingInstruction t d) = rw (chars-back t, chars-back d)
 
-words-node : (n : Node) → is_node (record_of n) ≡ true → node_of (record_of n) ≡ Found n
+words-node : (n : Node) → is_node (record_of n) ≡ true → node_of (record_of n) ≡ Some n
 unfolding node_of record_of
 words-node n h = rw (h, data-back n, parent-back n.parent)
 
 -- ---- what fits
 
-chars-word-fits : (c : Chars) → CharsFit c → chars_word c ≤ 4294967296
-chars-word-fits Empty h = omega arith
-chars-word-fits (Expanded t) h = omega arith
+chars-word-fits : (c : Option TextSlot) → CharsFit c → chars_word c ≤ 4294967296
+chars-word-fits None h = omega arith
+chars-word-fits (Some t) h = omega arith
 
-chars-fit : (c : Chars) → chars_word c ≤ 4294967296 → CharsFit c
-chars-fit Empty h = tt
-chars-fit (Expanded t) h = omega arith
+chars-fit : (c : Option TextSlot) → chars_word c ≤ 4294967296 → CharsFit c
+chars-fit None h = tt
+chars-fit (Some t) h = omega arith
 
-parent-word-fits : (p : Parent) → ParentFits p → (parent_word p ≤ 4294967296) × (parent_generation p ≤ most (not (eqb (parent_word p) 0)) 4294967295)
+parent-word-fits : (p : Option NodeId) → ParentFits p → (parent_word p ≤ 4294967296) × (parent_generation p ≤ most (not (eqb (parent_word p) 0)) 4294967295)
 parent-word-fits None h = (omega arith, omega arith)
-parent-word-fits (Of k) h = (omega arith, rw (ne_eqb (k.index + 1) 0 (omega arith)) (omega arith))
+parent-word-fits (Some k) h = (omega arith, rw (ne_eqb (k.index + 1) 0 (omega arith)) (omega arith))
 
-parent-fits : (p : Parent) → parent_word p ≤ 4294967296 → parent_generation p ≤ most (not (eqb (parent_word p) 0)) 4294967295 → ParentFits p
+parent-fits : (p : Option NodeId) → parent_word p ≤ 4294967296 → parent_generation p ≤ most (not (eqb (parent_word p) 0)) 4294967295 → ParentFits p
 parent-fits None h = λ g. tt
-parent-fits (Of k) h = rw (ne_eqb (k.index + 1) 0 (omega arith)) (λ g. (omega arith, omega arith))
+parent-fits (Some k) h = rw (ne_eqb (k.index + 1) 0 (omega arith)) (λ g. (omega arith, omega arith))
 
-module _ (p : Parent) (c : Range) where
+module _ (p : Option NodeId) (c : Range) where
   abbrev node : NodeData → Node
   node d = record { «data» = d; parent = p; children = c }
 
@@ -263,7 +261,7 @@ fits-is-node n f =
     let d = within-fitting n.parent n.children n.«data» f.fits-data f.fits-children in
     is-node (record_of n) (record { kind = d.0; name = d.1; first = d.2; second = d.3; parent = q.0; generation = q.1; children = d.4; attributes = d.5; namespaces = d.6 })
 
-pub node-back : (n : Node) → NodeFits n → node_of (record_of n) ≡ Found n
+pub node-back : (n : Node) → NodeFits n → node_of (record_of n) ≡ Some n
 node-back n f = words-node n (fits-is-node n f)
 
 -- what was loaded fits
@@ -274,5 +272,5 @@ is-node-fits n h =
     let d = fitting-within n.parent n.children n.«data» w in
     record { fits-data = d.0; fits-parent = parent-fits n.parent w.parent w.generation; fits-children = d.1 }
 
-pub found-fits : (r : NodeRecord) (n : Node) → node_of r ≡ Found n → NodeFits n
+pub found-fits : (r : NodeRecord) (n : Node) → node_of r ≡ Some n → NodeFits n
 found-fits r n e = is-node-fits n (ap is_node (record-back r n e) ∙ found-is-node r n e)

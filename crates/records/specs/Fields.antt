@@ -1,10 +1,8 @@
 -- 01, rule 1, "words within their fields", as readable propositions: of the twelve words, and of a node's numbers.
-use Rattle.std.specs.Prelude.{◌≡◌, Bool, not, ◌≤◌, ◌<◌, eqb}
+use Rattle.words.specs.declared.TextSlot.{TextSlot}
+use Rattle.records.specs.declared.NodeId.{NodeId}
+use Rattle.std.specs.Prelude.{◌≡◌, Bool, not, ◌≤◌, ◌<◌, eqb, Option, None, Some}
 use Rattle.records.specs.declared.Range.{Range}
-use Rattle.records.specs.declared.Chars.{Chars}
-use Rattle.records.specs.declared.Chars.TheVariants.{Empty, Expanded}
-use Rattle.records.specs.declared.Parent.{Parent}
-use Rattle.records.specs.declared.Parent.TheVariants.{None, Of}
 use Rattle.records.specs.declared.NodeData.{NodeData}
 use Rattle.records.specs.declared.NodeData.TheVariants.{Root, Element, Attr, Text, Comment, Namespace, ProcessingInstruction}
 use Rattle.records.specs.declared.Node.{Node}
@@ -30,13 +28,13 @@ pub record Within (r : NodeRecord) : Type 0 where
 abbrev pub RangeFits : Range → Type 0
 RangeFits r = (r.start < 4294967296) × (r.len < 4294967296)
 
-abbrev pub CharsFit : Chars → Type 0
-CharsFit Empty = Unit {0}
-CharsFit (Expanded t) = t.0 < 4294967296
+abbrev pub CharsFit : Option TextSlot → Type 0
+CharsFit None = Unit {0}
+CharsFit (Some t) = t.0 < 4294967296
 
-abbrev pub ParentFits : Parent → Type 0
+abbrev pub ParentFits : Option NodeId → Type 0
 ParentFits None = Unit {0}
-ParentFits (Of h) = (h.index < 4294967296) × (h.generation < 4294967296)
+ParentFits (Some h) = (h.index < 4294967296) × (h.generation < 4294967296)
 
 abbrev pub DataFits : NodeData → Type 0
 DataFits Root = Unit {0}

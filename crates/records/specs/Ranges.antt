@@ -1,5 +1,6 @@
 -- A node record with one of its three ranges, or its parent, replaced.
-use Rattle.records.specs.declared.Parent.{Parent}
+use Rattle.records.specs.declared.NodeId.{NodeId}
+use Rattle.std.specs.Prelude.{Option}
 use Rattle.records.specs.declared.Span.{Span}
 use Rattle.records.specs.declared.NodeRecord.{NodeRecord}
 use Rattle.records.specs.Records.{parent_word, parent_generation}
@@ -44,7 +45,7 @@ with_namespaces r s = record {
 }
 
 -- with another parent, or none
-abbrev pub with_parent : NodeRecord → Parent → NodeRecord
+abbrev pub with_parent : NodeRecord → Option NodeId → NodeRecord
 with_parent r p = record {
   kind = r.kind;
   name = r.name;

@@ -1,34 +1,30 @@
 -- The words of a node, by name, and the node that words are.
-use Rattle.std.specs.Prelude.{Bool, ◌&&◌, ◌||◌, not, cond, List, [], ◌∷◌, ℕ, ◌+◌, ◌-◌, get_or, eqb, leb}
+use Rattle.words.specs.declared.TextSlot.{TextSlot}
+use Rattle.records.specs.declared.NodeId.{NodeId}
+use Rattle.std.specs.Prelude.{Bool, ◌&&◌, ◌||◌, not, cond, List, [], ◌∷◌, ℕ, ◌+◌, ◌-◌, get_or, eqb, leb, Option, None, Some}
 use Rattle.words.specs.declared.NameId.{NameId}
 use Rattle.records.specs.declared.Range.{Range}
-use Rattle.records.specs.declared.Chars.{Chars}
-use Rattle.records.specs.declared.Chars.TheVariants.{Empty, Expanded}
-use Rattle.records.specs.declared.Parent.{Parent}
-use Rattle.records.specs.declared.Parent.TheVariants.{None, Of}
 use Rattle.records.specs.declared.NodeData.{NodeData}
 use Rattle.records.specs.declared.NodeData.TheVariants.{Root, Element, Attr, Text, Comment, Namespace, ProcessingInstruction}
 use Rattle.records.specs.declared.Node.{Node}
-use Rattle.records.specs.declared.Loaded.{Loaded}
-use Rattle.records.specs.declared.Loaded.TheVariants.{Found, NoNode}
 use Rattle.records.specs.declared.Span.{Span}
 use Rattle.records.specs.declared.NodeRecord.{NodeRecord}
 
 -- ---- from a node to its words
 
 -- a text's word: 0 for the empty text that takes no slot, else its slot + 1
-abbrev pub chars_word : Chars → ℕ
-chars_word Empty = 0
-chars_word (Expanded t) = t.0 + 1
+abbrev pub chars_word : Option TextSlot → ℕ
+chars_word None = 0
+chars_word (Some t) = t.0 + 1
 
 -- the parent's word: 0 for none, else its index + 1; the parent's generation stands beside it
-abbrev pub parent_word : Parent → ℕ
+abbrev pub parent_word : Option NodeId → ℕ
 parent_word None = 0
-parent_word (Of h) = h.index + 1
+parent_word (Some h) = h.index + 1
 
-abbrev pub parent_generation : Parent → ℕ
+abbrev pub parent_generation : Option NodeId → ℕ
 parent_generation None = 0
-parent_generation (Of h) = h.generation
+parent_generation (Some h) = h.generation
 
 abbrev pub span_of : Range → Span
 span_of r = record { start = r.start; len = r.len }
@@ -55,21 +51,21 @@ name_word (Comment v) = 0
 name_word (Namespace p u) = 0
 name_word (ProcessingInstruction t d) = 0
 
-abbrev pub first_text : NodeData → Chars
-first_text Root = Empty
-first_text (Element n a s) = Empty
+abbrev pub first_text : NodeData → Option TextSlot
+first_text Root = None
+first_text (Element n a s) = None
 first_text (Attr n v) = v
 first_text (Text v) = v
 first_text (Comment v) = v
 first_text (Namespace p u) = p
 first_text (ProcessingInstruction t d) = t
 
-abbrev pub second_text : NodeData → Chars
-second_text Root = Empty
-second_text (Element n a s) = Empty
-second_text (Attr n v) = Empty
-second_text (Text v) = Empty
-second_text (Comment v) = Empty
+abbrev pub second_text : NodeData → Option TextSlot
+second_text Root = None
+second_text (Element n a s) = None
+second_text (Attr n v) = None
+second_text (Text v) = None
+second_text (Comment v) = None
 second_text (Namespace p u) = u
 second_text (ProcessingInstruction t d) = d
 
@@ -149,11 +145,11 @@ are_ranges r =
 unfoldable pub is_node : NodeRecord → Bool
 is_node r = is_data r && (is_parent r && are_ranges r)
 
-abbrev pub chars_of : ℕ → Chars
-chars_of w = cond (eqb w 0) Empty (Expanded (record { 0 = w - 1 }))
+abbrev pub chars_of : ℕ → Option TextSlot
+chars_of w = cond (eqb w 0) None (Some (record { 0 = w - 1 }))
 
-abbrev pub parent_of : ℕ → ℕ → Parent
-parent_of w g = cond (eqb w 0) None (Of (record { index = w - 1; generation = g }))
+abbrev pub parent_of : ℕ → ℕ → Option NodeId
+parent_of w g = cond (eqb w 0) None (Some (record { index = w - 1; generation = g }))
 
 abbrev pub range_of : Span → Range
 range_of s = record { start = s.start; len = s.len }
@@ -175,8 +171,8 @@ data_of r =
 abbrev pub found_node : NodeRecord → Node
 found_node r = record { «data» = data_of r; parent = parent_of r.parent r.generation; children = range_of r.children }
 
-unfoldable pub node_of : NodeRecord → Loaded
-node_of r = cond (is_node r) (Found (found_node r)) NoNode
+unfoldable pub node_of : NodeRecord → Option Node
+node_of r = cond (is_node r) (Some (found_node r)) None
 
 -- the Root as Start lays it: all twelve words zero
 abbrev pub zero_root : Node

@@ -1,16 +1,10 @@
 // From words to the node that they are. is_node has all the tests of rule 1, "words within their fields", that a record's words undergo.
-ghost use Rattle.std.specs.Prelude.{◌≡◌, ◌&&◌, true, ◌<◌, ◌≤◌, leb};
+ghost use Rattle.std.specs.Prelude.{◌≡◌, true, ◌<◌, ◌≤◌, leb};
 ghost use Rattle.records.specs.Records.{has_name, has_children, most, is_span, is_data, is_parent, are_ranges, is_node, chars_of, parent_of, range_of, name_of, data_of, node_of};
 
-use crate::{Chars, Loaded, Node, NodeData, NodeId, NodeRecord, Parent, Range, Span};
+use crate::kind::{ATTR, COMMENT, ELEMENT, NAMESPACE, PROCESSING_INSTRUCTION, ROOT, TEXT};
+use crate::{Node, NodeData, NodeId, NodeRecord, Range, Span};
 use words::{NameId, TextSlot};
-
-// A call in place of &&: no branch stands between the tests.
-fn both(a: bool, b: bool) -> bool
-    ensures { result ≡ (a && b) }
-{
-    if a { b } else { false }
-}
 
 // The greatest that a word may be: its field's, or zero where the word has no use.
 fn most(used: bool, limit: u64) -> u64
@@ -26,85 +20,85 @@ fn fits(word: u64, used: bool, limit: u64) -> bool
     word <= most(used, limit)
 }
 
+#[tactic(auto, unfolding(crate::specs::Records::is_span))]
 fn span_fits(span: Span, used: bool) -> bool
     ensures { result ≡ is_span used span }
 {
-    let start = span.start;
-    let len = span.len;
-    both(fits(start, used, 4294967295), fits(len, used, 4294967295))
+    fits(span.start, used, 4294967295) & fits(span.len, used, 4294967295)
 }
 
 fn has_name(kind: u64) -> bool
     ensures { result ≡ has_name kind }
 {
-    if kind == 1 { true } else { kind == 2 }
+    (kind == ELEMENT) | (kind == ATTR)
 }
 
 fn has_children(kind: u64) -> bool
     ensures { result ≡ has_children kind }
 {
-    if kind == 2 { false } else { kind != 5 }
+    (kind != ATTR) & (kind != NAMESPACE)
 }
 
+#[tactic(auto, using(crate::proofs::Decoding::regrouped), unfolding(crate::specs::Records::is_data))]
 fn is_data(words: NodeRecord) -> bool
     ensures { result ≡ is_data words }
 {
     let kind = words.kind;
     let named = has_name(kind);
     let name = fits(words.name, named, 4294967295);
-    let first = fits(words.first, 2 <= kind, 4294967296);
-    let second = fits(words.second, 5 <= kind, 4294967296);
-    both(kind <= 6, both(name, both(first, second)))
+    let first = fits(words.first, ATTR <= kind, 4294967296);
+    let second = fits(words.second, NAMESPACE <= kind, 4294967296);
+    (kind <= PROCESSING_INSTRUCTION) & name & first & second
 }
 
+#[tactic(auto, unfolding(crate::specs::Records::is_parent))]
 fn is_parent(words: NodeRecord) -> bool
     ensures { result ≡ is_parent words }
 {
     let parent = words.parent;
     let generation = fits(words.generation, parent != 0, 4294967295);
-    both(parent <= 4294967296, generation)
+    (parent <= 4294967296) & generation
 }
 
+#[tactic(auto, using(crate::proofs::Decoding::regrouped), unfolding(crate::specs::Records::are_ranges))]
 fn are_ranges(words: NodeRecord) -> bool
     ensures { result ≡ are_ranges words }
 {
     let kind = words.kind;
     let parental = has_children(kind);
     let children = span_fits(words.children, parental);
-    let attributes = span_fits(words.attributes, kind == 1);
-    let namespaces = span_fits(words.namespaces, kind == 1);
-    both(children, both(attributes, namespaces))
+    let attributes = span_fits(words.attributes, kind == ELEMENT);
+    let namespaces = span_fits(words.namespaces, kind == ELEMENT);
+    children & attributes & namespaces
 }
 
 // Whether the words are a node.
+#[tactic(auto, using(crate::proofs::Decoding::regrouped), unfolding(crate::specs::Records::is_node))]
 pub fn is_node(words: NodeRecord) -> bool
     ensures { result ≡ is_node words }
 {
-    let data = is_data(words);
-    let parent = is_parent(words);
-    let ranges = are_ranges(words);
-    both(data, both(parent, ranges))
+    is_data(words) & is_parent(words) & are_ranges(words)
 }
 
-pub fn chars_of(word: u64) -> Chars
+pub fn chars_of(word: u64) -> Option<TextSlot>
     requires { word ≤ 4294967296 }
     ensures { result ≡ chars_of word }
 {
     if word == 0 {
-        Chars::Empty
+        None
     } else {
-        Chars::Expanded(TextSlot((word - 1) as u32))
+        Some(TextSlot((word - 1) as u32))
     }
 }
 
-pub fn parent_of(word: u64, generation: u64) -> Parent
+pub fn parent_of(word: u64, generation: u64) -> Option<NodeId>
     requires { (word ≤ 4294967296) × (generation < 4294967296) }
     ensures { result ≡ parent_of word generation }
 {
     if word == 0 {
-        Parent::None
+        None
     } else {
-        Parent::Of(NodeId {
+        Some(NodeId {
             index: (word - 1) as u32,
             generation: generation as u32,
         })
@@ -115,11 +109,9 @@ pub fn range_of(span: Span) -> Range
     requires { (span.start < 4294967296) × (span.len < 4294967296) }
     ensures { result ≡ range_of span }
 {
-    let start = span.start;
-    let len = span.len;
     Range {
-        start: start as u32,
-        len: len as u32,
+        start: span.start as u32,
+        len: span.len as u32,
     }
 }
 
@@ -130,30 +122,27 @@ fn name_of(word: u64) -> NameId
     NameId(word as u32)
 }
 
+#[tactic(auto, using(crate::proofs::Decoding::narrow), unfolding(crate::specs::Records::data_of))]
 fn data_of(words: NodeRecord) -> NodeData
     requires { is_node words ≡ true }
     ensures { result ≡ data_of words }
 {
-    let kind = words.kind;
     let name = name_of(words.name);
     let first = chars_of(words.first);
     let second = chars_of(words.second);
     let attributes = range_of(words.attributes);
     let namespaces = range_of(words.namespaces);
-    match kind {
-        0 => NodeData::Root,
-        1 => NodeData::Element {
-            name: name,
-            attributes: attributes,
-            namespaces: namespaces,
+    match words.kind {
+        ROOT => NodeData::Root,
+        ELEMENT => NodeData::Element {
+            name,
+            attributes,
+            namespaces,
         },
-        2 => NodeData::Attr {
-            name: name,
-            value: first,
-        },
-        3 => NodeData::Text(first),
-        4 => NodeData::Comment(first),
-        5 => NodeData::Namespace {
+        ATTR => NodeData::Attr { name, value: first },
+        TEXT => NodeData::Text(first),
+        COMMENT => NodeData::Comment(first),
+        NAMESPACE => NodeData::Namespace {
             prefix: first,
             uri: second,
         },
@@ -165,19 +154,17 @@ fn data_of(words: NodeRecord) -> NodeData
 }
 
 // The node that the words are, if they are one.
-pub fn node_of(words: NodeRecord) -> Loaded
+#[tactic(auto, using(crate::proofs::Decoding::narrow), unfolding(crate::specs::Records::node_of))]
+pub fn node_of(words: NodeRecord) -> Option<Node>
     ensures { result ≡ node_of words }
 {
     if is_node(words) {
-        let data = data_of(words);
-        let parent = parent_of(words.parent, words.generation);
-        let children = range_of(words.children);
-        Loaded::Found(Node {
-            data: data,
-            parent: parent,
-            children: children,
+        Some(Node {
+            data: data_of(words),
+            parent: parent_of(words.parent, words.generation),
+            children: range_of(words.children),
         })
     } else {
-        Loaded::NoNode
+        None
     }
 }

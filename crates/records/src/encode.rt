@@ -2,52 +2,43 @@
 ghost use Rattle.std.specs.Prelude.{◌≡◌};
 ghost use Rattle.records.specs.Records.{chars_word, parent_word, parent_generation, span_of, no_span, kind_word, name_word, first_text, second_text, attributes_span, namespaces_span, record_of};
 
-use crate::{Chars, Node, NodeData, NodeRecord, Parent, Range, Span};
+use crate::kind::{ATTR, COMMENT, ELEMENT, NAMESPACE, PROCESSING_INSTRUCTION, ROOT, TEXT};
+use crate::{Node, NodeData, NodeId, NodeRecord, Range, Span};
+use words::TextSlot;
 
-pub fn chars_word(text: Chars) -> u64
+pub fn chars_word(text: Option<TextSlot>) -> u64
     ensures { result ≡ chars_word text }
 {
     match text {
-        Chars::Empty => 0,
-        Chars::Expanded(slot) => {
-            let number = slot.0;
-            number as u64 + 1
-        }
+        None => 0,
+        Some(slot) => slot.0 as u64 + 1,
     }
 }
 
-pub fn parent_word(parent: Parent) -> u64
+pub fn parent_word(parent: Option<NodeId>) -> u64
     ensures { result ≡ parent_word parent }
 {
     match parent {
-        Parent::None => 0,
-        Parent::Of(id) => {
-            let index = id.index;
-            index as u64 + 1
-        }
+        None => 0,
+        Some(id) => id.index as u64 + 1,
     }
 }
 
-pub fn parent_generation(parent: Parent) -> u64
+pub fn parent_generation(parent: Option<NodeId>) -> u64
     ensures { result ≡ parent_generation parent }
 {
     match parent {
-        Parent::None => 0,
-        Parent::Of(id) => {
-            let generation = id.generation;
-            generation as u64
-        }
+        None => 0,
+        Some(id) => id.generation as u64,
     }
 }
 
 pub fn span_of(range: Range) -> Span
     ensures { result ≡ span_of range }
 {
-    let start = range.start;
-    let len = range.len;
     Span {
-        start: start as u64,
-        len: len as u64,
+        start: range.start as u64,
+        len: range.len as u64,
     }
 }
 
@@ -61,13 +52,13 @@ pub fn kind_word(data: NodeData) -> u64
     ensures { result ≡ kind_word «data» }
 {
     match data {
-        NodeData::Root => 0,
-        NodeData::Element { .. } => 1,
-        NodeData::Attr { .. } => 2,
-        NodeData::Text(_) => 3,
-        NodeData::Comment(_) => 4,
-        NodeData::Namespace { .. } => 5,
-        NodeData::ProcessingInstruction { .. } => 6,
+        NodeData::Root => ROOT,
+        NodeData::Element { .. } => ELEMENT,
+        NodeData::Attr { .. } => ATTR,
+        NodeData::Text(_) => TEXT,
+        NodeData::Comment(_) => COMMENT,
+        NodeData::Namespace { .. } => NAMESPACE,
+        NodeData::ProcessingInstruction { .. } => PROCESSING_INSTRUCTION,
     }
 }
 
@@ -75,98 +66,67 @@ pub fn name_word(data: NodeData) -> u64
     ensures { result ≡ name_word «data» }
 {
     match data {
-        NodeData::Root => 0,
-        NodeData::Element { name, .. } => {
-            let number = name.0;
-            number as u64
-        }
-        NodeData::Attr { name, .. } => {
-            let number = name.0;
-            number as u64
-        }
-        NodeData::Text(_) => 0,
-        NodeData::Comment(_) => 0,
-        NodeData::Namespace { .. } => 0,
-        NodeData::ProcessingInstruction { .. } => 0,
+        NodeData::Element { name, .. } | NodeData::Attr { name, .. } => name.0 as u64,
+        _ => 0,
     }
 }
 
 // A node's texts, in the order in which they are stored and released.
-pub fn first_text(data: NodeData) -> Chars
+pub fn first_text(data: NodeData) -> Option<TextSlot>
     ensures { result ≡ first_text «data» }
 {
     match data {
-        NodeData::Root => Chars::Empty,
-        NodeData::Element { .. } => Chars::Empty,
-        NodeData::Attr { value, .. } => value,
-        NodeData::Text(text) => text,
-        NodeData::Comment(text) => text,
-        NodeData::Namespace { prefix, .. } => prefix,
-        NodeData::ProcessingInstruction { target, .. } => target,
+        NodeData::Root | NodeData::Element { .. } => None,
+        NodeData::Attr { value: text, .. }
+        | NodeData::Text(text)
+        | NodeData::Comment(text)
+        | NodeData::Namespace { prefix: text, .. }
+        | NodeData::ProcessingInstruction { target: text, .. } => text,
     }
 }
 
-pub fn second_text(data: NodeData) -> Chars
+pub fn second_text(data: NodeData) -> Option<TextSlot>
     ensures { result ≡ second_text «data» }
 {
     match data {
-        NodeData::Root => Chars::Empty,
-        NodeData::Element { .. } => Chars::Empty,
-        NodeData::Attr { .. } => Chars::Empty,
-        NodeData::Text(_) => Chars::Empty,
-        NodeData::Comment(_) => Chars::Empty,
-        NodeData::Namespace { uri, .. } => uri,
-        NodeData::ProcessingInstruction { data, .. } => data,
+        NodeData::Namespace { uri: text, .. }
+        | NodeData::ProcessingInstruction { data: text, .. } => text,
+        _ => None,
     }
 }
 
 pub fn attributes_span(data: NodeData) -> Span
     ensures { result ≡ attributes_span «data» }
 {
-    let none = no_span();
     match data {
-        NodeData::Root => none,
         NodeData::Element { attributes, .. } => span_of(attributes),
-        NodeData::Attr { .. } => none,
-        NodeData::Text(_) => none,
-        NodeData::Comment(_) => none,
-        NodeData::Namespace { .. } => none,
-        NodeData::ProcessingInstruction { .. } => none,
+        _ => no_span(),
     }
 }
 
 pub fn namespaces_span(data: NodeData) -> Span
     ensures { result ≡ namespaces_span «data» }
 {
-    let none = no_span();
     match data {
-        NodeData::Root => none,
         NodeData::Element { namespaces, .. } => span_of(namespaces),
-        NodeData::Attr { .. } => none,
-        NodeData::Text(_) => none,
-        NodeData::Comment(_) => none,
-        NodeData::Namespace { .. } => none,
-        NodeData::ProcessingInstruction { .. } => none,
+        _ => no_span(),
     }
 }
 
 // The words of a node, by name.
+#[tactic(auto, unfolding(crate::specs::Records::record_of))]
 pub fn record_of(node: Node) -> NodeRecord
     ensures { result ≡ record_of node }
 {
     let data = node.data;
-    let parent = node.parent;
-    let children = node.children;
-    let first = first_text(data);
-    let second = second_text(data);
     NodeRecord {
         kind: kind_word(data),
         name: name_word(data),
-        first: chars_word(first),
-        second: chars_word(second),
-        parent: parent_word(parent),
-        generation: parent_generation(parent),
-        children: span_of(children),
+        first: chars_word(first_text(data)),
+        second: chars_word(second_text(data)),
+        parent: parent_word(node.parent),
+        generation: parent_generation(node.parent),
+        children: span_of(node.children),
         attributes: attributes_span(data),
         namespaces: namespaces_span(data),
     }

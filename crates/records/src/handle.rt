@@ -7,9 +7,7 @@ use crate::NodeId;
 pub fn word_of(id: NodeId) -> u64
     ensures { result ≡ word_of id }
 {
-    let index = id.index;
-    let generation = id.generation;
-    index as u64 + generation as u64 * 4294967296
+    id.index as u64 + id.generation as u64 * 4294967296
 }
 
 pub fn id_of(word: u64) -> NodeId

@@ -4,39 +4,27 @@
 pub mod decode;
 pub mod encode;
 pub mod handle;
+pub mod kind;
 pub mod named;
 pub mod patch;
 
 use words::{NameId, TextSlot};
 
 // A handle: a slot and the generation that it was made with.
-#[derive(Clone, Copy)]
+#[derive(Clone, Copy, Debug, PartialEq, Eq)]
 pub struct NodeId {
     pub index: u32,
     pub generation: u32,
 }
 
 // A block of an arena.
-#[derive(Clone, Copy)]
+#[derive(Clone, Copy, Debug, PartialEq, Eq)]
 pub struct Range {
     pub start: u32,
     pub len: u32,
 }
 
-// A text: stored empty, or in a slot of the pool.
-#[derive(Clone, Copy)]
-pub enum Chars {
-    Empty,
-    Expanded(TextSlot),
-}
-
-#[derive(Clone, Copy)]
-pub enum Parent {
-    None,
-    Of(NodeId),
-}
-
-#[derive(Clone, Copy)]
+#[derive(Clone, Copy, Debug, PartialEq, Eq)]
 pub enum NodeData {
     Root,
     Element {
@@ -46,43 +34,36 @@ pub enum NodeData {
     },
     Attr {
         name: NameId,
-        value: Chars,
+        value: Option<TextSlot>,
     },
-    Text(Chars),
-    Comment(Chars),
+    Text(Option<TextSlot>),
+    Comment(Option<TextSlot>),
     Namespace {
-        prefix: Chars,
-        uri: Chars,
+        prefix: Option<TextSlot>,
+        uri: Option<TextSlot>,
     },
     ProcessingInstruction {
-        target: Chars,
-        data: Chars,
+        target: Option<TextSlot>,
+        data: Option<TextSlot>,
     },
 }
 
-#[derive(Clone, Copy)]
+#[derive(Clone, Copy, Debug, PartialEq, Eq)]
 pub struct Node {
     pub data: NodeData,
-    pub parent: Parent,
+    pub parent: Option<NodeId>,
     pub children: Range,
 }
 
-// The node that words are, or that they are none.
-#[derive(Clone, Copy)]
-pub enum Loaded {
-    Found(Node),
-    NoNode,
-}
-
 // Two words of a record that hold a range.
-#[derive(Clone, Copy)]
+#[derive(Clone, Copy, Debug, PartialEq, Eq)]
 pub struct Span {
     pub start: u64,
     pub len: u64,
 }
 
 // The node record: the twelve words of a slot by name, whether or not they are a node.
-#[derive(Clone, Copy)]
+#[derive(Clone, Copy, Debug, PartialEq, Eq)]
 pub struct NodeRecord {
     pub kind: u64,
     pub name: u64,

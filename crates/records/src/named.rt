@@ -61,19 +61,16 @@ pub fn write_record(words: &mut [u64], r: NodeRecord)
     requires { length words.old ≡ 12 }
     ensures { words.new ≡ record_words r }
 {
-    let children = r.children;
-    let attributes = r.attributes;
-    let namespaces = r.namespaces;
     words[KIND] = r.kind;
     words[NAME] = r.name;
     words[FIRST] = r.first;
     words[SECOND] = r.second;
     words[PARENT] = r.parent;
     words[GENERATION] = r.generation;
-    words[CHILDREN] = children.start;
-    words[CHILDREN_LEN] = children.len;
-    words[ATTRIBUTES] = attributes.start;
-    words[ATTRIBUTES_LEN] = attributes.len;
-    words[NAMESPACES] = namespaces.start;
-    words[NAMESPACES_LEN] = namespaces.len;
+    words[CHILDREN] = r.children.start;
+    words[CHILDREN_LEN] = r.children.len;
+    words[ATTRIBUTES] = r.attributes.start;
+    words[ATTRIBUTES_LEN] = r.attributes.len;
+    words[NAMESPACES] = r.namespaces.start;
+    words[NAMESPACES_LEN] = r.namespaces.len;
 }

@@ -1,8 +1,8 @@
 -- Slots pushed on the stack, and the bytes of all that stand on it given back.
 -- Assumes nothing.
+use Rattle.std.specs.Prelude.{Option, None, Some}
 use mathlib.Core.Path.{◌≡◌, refl, sym, ap, ◌∙◌}
 use mathlib.Core.Bool.{Bool, cond}
-use mathlib.Core.Option.{Option, none, some}
 use mathlib.Core.List.{List, [], ◌∷◌, ◌++◌, reverse}
 use Prim.Native.Nat.{ℕ, zero, suc, ◌+◌, ◌≤◌, ◌<◌}
 use native.Mathlib.Numerals.{add-one}
@@ -35,8 +35,8 @@ use Rattle.releasing.proofs.Laid.{size-laid, laid-between, laid-texts, laid-reac
 -- a slot pushed before the bytes are given back is a slot released after
 pub reclaimed-pushed : (p : Pool) (t : Option ℕ) → reclaimed (pushed p t) ≡ released (reclaimed p) t
 unfolding reclaimed pushed released
-reclaimed-pushed p none = refl
-reclaimed-pushed p (some s) = refl
+reclaimed-pushed p None = refl
+reclaimed-pushed p (Some s) = refl
 
 pub length-emptied : (l : List ℕ) (ts : List (List ℕ)) → length (emptied l ts) ≡ length ts
 length-emptied [] ts = refl
@@ -102,7 +102,7 @@ module _ (limits : TextLimits) (counts : TextCounts) (words : List ℕ) (h : Cou
       ∙ pieces-same (bytes_at limits) (bytes_at limits) (lengths_of (take counts.slots words)) after words
       (part-set-before words (bytes_at limits) (sum (lengths_of (take counts.slots words))) (limits.slots + counts.free) slot (omega arith))
 
-  pushed-pool : pool_of limits pushed_counts after ≡ pushed (pool_of limits counts words) (some slot)
+  pushed-pool : pool_of limits pushed_counts after ≡ pushed (pool_of limits counts words) (Some slot)
   unfolding pool_of pushed
   pushed-pool =
       let p = texts-pushed in

@@ -5,7 +5,6 @@ ghost use Rattle.texts.specs.Pool.{bytes_of};
 ghost use Rattle.texts.specs.Words.{bytes_at, pool_of, Counted, PushedTo, kept_text, laid, Reclaimable, ReclaimedTo};
 
 use texts::check::mark_free;
-use texts::storing::shift;
 use texts::{TextCounts, TextLimits};
 use words::TextSlot;
 
@@ -19,13 +18,9 @@ pub fn push_slot(
     requires { Counted limits counts words.old × (counts.free < limits.slots) }
     ensures { PushedTo limits counts words.old words.new slot.0 result }
 {
-    let s = slot.0;
-    let top = counts.free;
-    words[limits.slots + top] = s as u64;
-    let slots = counts.slots;
-    let free = top + 1;
-    let bytes = counts.bytes;
-    TextCounts { slots, free, bytes }
+    words[limits.slots + counts.free] = slot.0 as u64;
+    let free = counts.free + 1;
+    TextCounts { free, ..counts }
 }
 
 // How many of its bytes a text keeps: none where its slot has a mark.
@@ -42,19 +37,16 @@ fn close_gaps(words: &mut [u64], limits: TextLimits, counts: TextCounts, marks: 
     ensures value { result ≡ length (bytes_of (tabulate (kept_text marks.now (pool_of limits counts words.old).texts) counts.slots)) }
     ensures upper_bound { result ≤ counts.bytes }
 {
-    let n = counts.slots;
     let base = limits.slots + limits.slots;
-    let mut slot = 0;
     let mut from = 0;
     let mut to = 0;
-    while slot < n {
+    for slot in 0..counts.slots {
         let end = words[slot] as usize;
         let kept = kept_length(end - from, marks[slot]);
-        shift(words, base + from, kept, base + to);
+        words.copy_within(base + from..base + from + kept, base + to);
         to += kept;
         words[slot] = to as u64;
         from = end;
-        slot += 1;
     }
     to
 }
@@ -69,10 +61,8 @@ pub fn reclaim(
     requires { Reclaimable limits counts words.old × (counts.slots ≤ length marks.old) }
     ensures { ReclaimedTo limits counts words.old words.new result }
 {
-    words::clear(marks);
-    mark_free(&words[..], limits, counts, marks);
-    let bytes = close_gaps(words, limits, counts, &marks[..]);
-    let slots = counts.slots;
-    let free = counts.free;
-    TextCounts { slots, free, bytes }
+    marks.fill(0);
+    mark_free(words, limits, counts, marks);
+    let bytes = close_gaps(words, limits, counts, marks);
+    TextCounts { bytes, ..counts }
 }

@@ -1,8 +1,8 @@
 -- What the plan of a removal leaves to it.
 -- Assumes nothing.
-use mathlib.Core.Path.{◌≡◌, refl, sym, ap, ◌∙◌}
+use Rattle.std.specs.Prelude.{Option}
+use mathlib.Core.Path.{◌≡◌, refl, sym, ◌∙◌}
 use mathlib.Core.Bool.{true, false}
-use mathlib.Core.Option.{Option}
 use mathlib.Core.List.{List}
 use Prim.Native.Nat.{ℕ, zero, suc}
 use native.Mathlib.Omega.{arith}
@@ -15,12 +15,9 @@ use Rattle.layout.specs.declared.Document.{Document}
 use Rattle.memory.specs.Decode.{decode}
 use Rattle.memory.specs.Step.{Step}
 use Rattle.edits.proofs.Accepted.{viewed, performed}
-use Rattle.verdicts.specs.declared.verdict.Verdict.{Verdict}
-use Rattle.verdicts.specs.declared.verdict.Verdict.TheVariants.{Accepted}
-use Rattle.verdicts.specs.Verdicts.{verdict_number, refusal_number}
+use Rattle.verdicts.specs.Verdicts.{refusal_number}
 use Rattle.verdicts.proofs.Refusing.{number-guarded}
-use Rattle.editing.specs.Contract.{Answers}
-use Rattle.editing.proofs.Editing.{performed-answers}
+use Rattle.memory.specs.Performed.{Performed}
 
 root-kind : (D : Doc) (k : Kind ℕ (Option ℕ)) → is_root (map_kind (pair_at D) (bytes_at D) k) ≡ is_root k
 root-kind D root = refl
@@ -36,22 +33,21 @@ unfolding guarded
 guarded-zero zero D o e = refl
 guarded-zero (suc n) D o e = absurd (omega arith)
 
-module _ (d : Document) (mem : List ℕ) (h : ℕ) (v : Verdict) (q : v ≡ Accepted) (e : verdict_number v ≡ refusal_number (step (remove h) (decode d mem)).answer) where
+module _ (d : Document) (mem : List ℕ) (h : ℕ) (e : 0 ≡ refusal_number (step (remove h) (decode d mem)).answer) where
   abbrev D : Doc
   D = decode d mem
 
-  none : check_remove (view_at D h) ≡ 0
-  none = sym (number-guarded (check_remove (view_at D h)) D (answers (removed D h) done) refl) ∙ sym e ∙ ap verdict_number q
+  unrefused : check_remove (view_at D h) ≡ 0
+  unrefused = sym (number-guarded (check_remove (view_at D h)) D (answers (removed D h) done) refl) ∙ sym e
 
   pub removable : (resolves (decode d mem) h ≡ true) × (is_root (kind_at (decode d mem) h) ≡ false)
   removable =
-      let s = viewed D h check_remove (λ z. omega arith) none in
+      let s = viewed D h check_remove (λ z. omega arith) unrefused in
       (s.0, sym (root-kind D (kind_at D h)) ∙ refuse-zero (is_root (node_at D h)) 10 s.1)
 
-  pub removes : (r : Document) (mem' : List ℕ) → Step d mem r mem' (removed (decode d mem) h) → Answers (remove h) d mem done r mem'
+  pub removes : (r : Document) (mem' : List ℕ) → Step d mem r mem' (removed (decode d mem) h) → Performed (remove h) d mem done r mem'
   removes r mem' s =
-      performed-answers (remove h) d mem done r mem' refl
-      (performed (remove h) d mem (answers (removed D h) done) opened done refl r mem' s)
+      performed (remove h) d mem (answers (removed D h) done) opened done refl r mem' s
     where
       opened : step (remove h) D ≡ answers (removed D h) done
-      opened = guarded-zero (check_remove (view_at D h)) D (answers (removed D h) done) none
+      opened = guarded-zero (check_remove (view_at D h)) D (answers (removed D h) done) unrefused

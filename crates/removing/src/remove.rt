@@ -8,16 +8,15 @@ ghost use Rattle.layout.specs.Layout.{buffers_ok};
 ghost use Rattle.memory.specs.Decode.{decode};
 ghost use Rattle.memory.specs.Undamaged.{Undamaged};
 ghost use Rattle.memory.specs.Step.{Step};
-ghost use Rattle.editing.specs.Contract.{Edits, Answers};
+ghost use Rattle.editing.specs.Contract.{Edits};
 ghost use Rattle.editing.specs.Answers.{of_done, after_done};
 
 use editing::admission::admit;
-use editing::answers::DoneAnswer;
 use freeing::subtree::do_remove;
 use layout::Document;
+use model::Refusal;
 use plans::removals::plan_remove;
 use records::NodeId;
-use verdicts::verdict::Verdict;
 
 // The stack of the walk stood in scratch, which is cleared again.
 pub fn remove_node(d: Document, mem: &mut [u64], scratch: &mut [u64], id: NodeId) -> Document
@@ -27,29 +26,20 @@ pub fn remove_node(d: Document, mem: &mut [u64], scratch: &mut [u64], id: NodeId
     ensures scratch_after { scratch.new ≡ replicate (length scratch.old) 0 }
 {
     let document = do_remove(d, mem, scratch, id);
-    words::clear(scratch);
+    scratch.fill(0);
     document
 }
 
-// Scratch is all zero before and after.
-fn remove_checked(d: Document, mem: &mut [u64], scratch: &mut [u64], id: NodeId) -> DoneAnswer
-    requires scratch_value { (buffers_ok d (length mem.old) (length scratch.old) ≡ true) × Undamaged d mem.old }
-    requires scratch_value_2 { scratch.old ≡ replicate (length scratch.old) 0 }
-    ensures answers { Answers (remove (word_of id)) d mem.old (of_done result) (after_done d result) mem.new }
-    ensures scratch_after { scratch.new ≡ replicate (length scratch.old) 0 }
-{
-    match plan_remove(d, &mem[..], id) {
-        Verdict::Refused(why) => DoneAnswer::Refused(why),
-        Verdict::Accepted => DoneAnswer::Done(remove_node(d, mem, scratch, id)),
-    }
-}
-
 // Rules out a node below it that still resolves, and a text slot that is not given back.
-pub fn remove(d: Document, mem: &mut [u64], scratch: &mut [u64], id: NodeId) -> DoneAnswer
+pub fn remove(
+    d: Document,
+    mem: &mut [u64],
+    scratch: &mut [u64],
+    id: NodeId,
+) -> Result<Document, Refusal>
     ensures { Edits (remove (word_of id)) d mem.old scratch.old (of_done result) (after_done d result) mem.new scratch.new }
 {
-    match admit(d, &mem[..], scratch) {
-        Verdict::Refused(why) => DoneAnswer::Refused(why),
-        Verdict::Accepted => remove_checked(d, mem, scratch, id),
-    }
+    admit(d, &mem[..], scratch)?;
+    plan_remove(d, &mem[..], id)?;
+    Ok(remove_node(d, mem, scratch, id))
 }

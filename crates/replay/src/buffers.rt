@@ -1,4 +1,4 @@
-// The sizes of the buffers. Those of a document fit the program's own limits (`edit::own_limits`) and no more; the texts of a line take half of it at most.
+// The sizes of the buffers. Those of a document fit the program's own limits (`edit::OWN_LIMITS`) and no more; the texts of a line take half of it at most.
 pub const MEMORY: usize = 171008;
 
 pub const SCRATCH: usize = 36864;

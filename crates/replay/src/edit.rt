@@ -1,241 +1,134 @@
-// The editing calls and the start of a document. What each answers is written after it.
-use crate::buffers::{MEMORY, SCRATCH, TEXTS};
-use editing::answers::{DoneAnswer, FoundAnswer, MadeAnswer, OrderAnswer};
+// The editing calls and the start of a document.
+use appending::comment::append_comment;
+use appending::element::append_element;
+use appending::instruction::append_pi;
+use appending::text::append_text;
+use changing::attribute::set_attribute;
+use changing::namespace::declare_namespace;
+use changing::text::set_text;
+use edits::born::NewNode;
 use layout::record::slots_alone;
 use layout::{Document, Limits};
-use lines::read::between;
 use model::Refusal;
-use parsing::parse::{Alone, Line, WithText, WithTexts};
+use moving::moves::{insert_at, reparent};
+use ordering::compact::compact;
+use ordering::order::document_order;
+use parsing::parse::Edit;
+use printing::show::Shown;
 use records::NodeId;
-use tree::start::StartAnswer;
+use removing::attribute::remove_attribute;
+use removing::detach::detach;
+use removing::remove::remove;
+use tree::start::start;
 
-// What a call answers; nothing where the line is no editing call.
+// What an editing call answers.
 #[derive(Clone, Copy)]
 pub enum Reply {
-    Nothing,
     Done,
     Made(NodeId),
     Found(bool),
     Order,
-    Refused(Refusal),
-}
-
-// The record after a line, and what the line answers.
-#[derive(Clone, Copy)]
-pub struct After {
-    pub document: Document,
-    pub reply: Reply,
 }
 
 // The limits of a list that chooses none; the buffers fit them and no more.
-fn own_limits() -> Limits {
-    Limits {
-        nodes: 2048,
-        children: 8192,
-        attributes: 8192,
-        namespaces: 8192,
-        texts: 4096,
-        textbytes: 65536,
-        names: 512,
-        namebytes: 16384,
-    }
+const OWN_LIMITS: Limits = Limits {
+    nodes: 2048,
+    children: 8192,
+    attributes: 8192,
+    namespaces: 8192,
+    texts: 4096,
+    textbytes: 65536,
+    names: 512,
+    namebytes: 16384,
+};
+
+// A document in its buffers.
+#[derive(Drop)]
+pub struct Store<'a> {
+    pub document: Document,
+    pub mem: &'a mut [u64],
+    pub scratch: &'a mut [u64],
 }
 
-// The document that a list starts with.
-pub fn fresh(mem: &mut [u64; MEMORY]) -> Document {
-    match tree::start::start(own_limits(), mem) {
-        StartAnswer::Started(document) => document,
-        StartAnswer::Refused(_) => slots_alone(own_limits(), 0, false),
-    }
-}
-
-fn replied(document: Document, reply: Reply) -> After {
-    After { document, reply }
-}
-
-fn started(d: Document, answer: StartAnswer) -> After {
-    match answer {
-        StartAnswer::Started(document) => replied(document, Reply::Done),
-        StartAnswer::Refused(why) => replied(d, Reply::Refused(why)),
-    }
-}
-
-fn done(d: Document, answer: DoneAnswer) -> After {
-    match answer {
-        DoneAnswer::Done(document) => replied(document, Reply::Done),
-        DoneAnswer::Refused(why) => replied(d, Reply::Refused(why)),
-    }
-}
-
-fn made(d: Document, answer: MadeAnswer) -> After {
-    match answer {
-        MadeAnswer::Made(new) => {
-            let document = new.document;
-            let id = new.id;
-            replied(document, Reply::Made(id))
-        }
-        MadeAnswer::Refused(why) => replied(d, Reply::Refused(why)),
-    }
-}
-
-fn found(d: Document, answer: FoundAnswer) -> After {
-    match answer {
-        FoundAnswer::Found(document, was) => replied(document, Reply::Found(was)),
-        FoundAnswer::Refused(why) => replied(d, Reply::Refused(why)),
-    }
-}
-
-fn ordered(d: Document, answer: OrderAnswer) -> After {
-    match answer {
-        OrderAnswer::Order(document) => replied(document, Reply::Order),
-        OrderAnswer::Refused(why) => replied(d, Reply::Refused(why)),
-    }
-}
-
-// Scratch has to fit the limits too, and a document whose limits are refused stays.
-fn limited(d: Document, mem: &mut [u64; MEMORY], limits: Limits) -> After {
-    if layout::buffers_ok(slots_alone(limits, 0, false), MEMORY, SCRATCH) {
-        return started(d, tree::start::start(limits, mem));
-    }
-    replied(d, Reply::Refused(Refusal::BadBuffers))
-}
-
-fn alone(d: Document, mem: &mut [u64; MEMORY], scratch: &mut [u64; SCRATCH], call: Alone) -> After {
-    match call {
-        Alone::DocumentOrder => ordered(d, ordering::order::document_order(d, mem, scratch)),
-        Alone::Compact => done(d, ordering::compact::compact(d, mem, scratch)),
-        Alone::Fresh => started(d, tree::start::start(own_limits(), mem)),
-        _ => replied(d, Reply::Nothing),
-    }
-}
-
-fn with_text(
-    d: Document,
-    mem: &mut [u64; MEMORY],
-    scratch: &mut [u64; SCRATCH],
-    call: WithText,
-    id: NodeId,
-    text: &[u8],
-) -> After {
-    match call {
-        WithText::AppendText => made(d, appending::text::append_text(d, mem, scratch, id, text)),
-        WithText::AppendComment => made(
-            d,
-            appending::comment::append_comment(d, mem, scratch, id, text),
-        ),
-        WithText::SetText => done(d, changing::text::set_text(d, mem, scratch, id, text)),
-    }
-}
-
-fn with_texts(
-    d: Document,
-    mem: &mut [u64; MEMORY],
-    scratch: &mut [u64; SCRATCH],
-    call: WithTexts,
-    id: NodeId,
-    first: &[u8],
-    second: &[u8],
-) -> After {
-    match call {
-        WithTexts::AppendElement => made(
-            d,
-            appending::element::append_element(d, mem, scratch, id, first, second),
-        ),
-        WithTexts::RemoveAttribute => found(
-            d,
-            removing::attribute::remove_attribute(d, mem, scratch, id, first, second),
-        ),
-        WithTexts::DeclareNamespace => made(
-            d,
-            changing::namespace::declare_namespace(d, mem, scratch, id, first, second),
-        ),
-        WithTexts::AppendPi => made(
-            d,
-            appending::instruction::append_pi(d, mem, scratch, id, first, second),
-        ),
-    }
-}
-
-fn set_attribute(
-    d: Document,
-    mem: &mut [u64; MEMORY],
-    scratch: &mut [u64; SCRATCH],
-    id: NodeId,
-    namespace: &[u8],
-    local: &[u8],
-    value: &[u8],
-) -> After {
-    done(
-        d,
-        changing::attribute::set_attribute(d, mem, scratch, id, namespace, local, value),
-    )
-}
-
-// The calls with texts, which lie one behind the other.
-fn edit_texts(
-    d: Document,
-    mem: &mut [u64; MEMORY],
-    scratch: &mut [u64; SCRATCH],
-    texts: &[u8; TEXTS],
-    line: Line,
-) -> After {
-    match line {
-        Line::WithText(call, id, end) => {
-            with_text(d, mem, scratch, call, id, between(texts, 0, end))
-        }
-        Line::WithTexts(call, id, first, second) => with_texts(
-            d,
+impl<'a> Store<'a> {
+    // With the document that a list starts with.
+    pub fn new(mem: &'a mut [u64], scratch: &'a mut [u64]) -> Store<'a> {
+        let document = start(OWN_LIMITS, mem).unwrap_or(slots_alone(OWN_LIMITS, 0, false));
+        Store {
+            document,
             mem,
             scratch,
-            call,
-            id,
-            between(texts, 0, first),
-            between(texts, first, second),
-        ),
-        Line::SetAttribute(id, first, second, third) => set_attribute(
-            d,
-            mem,
-            scratch,
-            id,
-            between(texts, 0, first),
-            between(texts, first, second),
-            between(texts, second, third),
-        ),
-        _ => replied(d, Reply::Nothing),
+        }
+    }
+
+    pub fn shown(&self) -> Shown<'_> {
+        Shown {
+            document: self.document,
+            mem: self.mem,
+        }
+    }
+
+    pub fn edit(&mut self, call: Edit<'_>) -> Result<Reply, Refusal> {
+        let (document, reply) = edited(self.document, self.mem, self.scratch, call)?;
+        self.document = document;
+        Ok(reply)
     }
 }
 
-// The calls of a node and of two, and those with texts.
-fn edit_nodes(
-    d: Document,
-    mem: &mut [u64; MEMORY],
-    scratch: &mut [u64; SCRATCH],
-    texts: &[u8; TEXTS],
-    line: Line,
-) -> After {
-    match line {
-        Line::Remove(id) => done(d, removing::remove::remove(d, mem, scratch, id)),
-        Line::Detach(id) => done(d, removing::detach::detach(d, mem, scratch, id)),
-        Line::Reparent(id, parent) => done(d, moving::moves::reparent(d, mem, scratch, id, parent)),
-        Line::InsertAt(parent, index, child) => done(
-            d,
-            moving::moves::insert_at(d, mem, scratch, parent, index as usize, child),
-        ),
-        _ => edit_texts(d, mem, scratch, texts, line),
-    }
+// The record after a call, and what the call answers.
+type Edited = Result<(Document, Reply), Refusal>;
+
+fn edited(d: Document, mem: &mut [u64], scratch: &mut [u64], call: Edit<'_>) -> Edited {
+    Ok(match call {
+        Edit::AppendElement(id, namespace, local) => {
+            made(append_element(d, mem, scratch, id, namespace, local)?)
+        }
+        Edit::AppendText(id, text) => made(append_text(d, mem, scratch, id, text)?),
+        Edit::AppendComment(id, text) => made(append_comment(d, mem, scratch, id, text)?),
+        Edit::AppendPi(id, target, data) => made(append_pi(d, mem, scratch, id, target, data)?),
+        Edit::SetText(id, text) => done(set_text(d, mem, scratch, id, text)?),
+        Edit::SetAttribute(id, namespace, local, value) => {
+            done(set_attribute(d, mem, scratch, id, namespace, local, value)?)
+        }
+        Edit::RemoveAttribute(id, namespace, local) => {
+            found(remove_attribute(d, mem, scratch, id, namespace, local)?)
+        }
+        Edit::DeclareNamespace(id, prefix, uri) => {
+            made(declare_namespace(d, mem, scratch, id, prefix, uri)?)
+        }
+        Edit::Remove(id) => done(remove(d, mem, scratch, id)?),
+        Edit::Detach(id) => done(detach(d, mem, scratch, id)?),
+        Edit::Reparent(id, parent) => done(reparent(d, mem, scratch, id, parent)?),
+        Edit::InsertAt(parent, index, child) => {
+            done(insert_at(d, mem, scratch, parent, index, child)?)
+        }
+        Edit::DocumentOrder => ordered(document_order(d, mem, scratch)?),
+        Edit::Compact => done(compact(d, mem, scratch)?),
+        Edit::Fresh => done(start(OWN_LIMITS, mem)?),
+        Edit::Limits(limits) => limited(mem, scratch.len(), limits)?,
+    })
 }
 
-// Any line: what is no editing call leaves the document as it is.
-pub fn edit(
-    d: Document,
-    mem: &mut [u64; MEMORY],
-    scratch: &mut [u64; SCRATCH],
-    texts: &[u8; TEXTS],
-    line: Line,
-) -> After {
-    match line {
-        Line::Alone(call) => alone(d, mem, scratch, call),
-        Line::Limits(limits) => limited(d, mem, limits),
-        _ => edit_nodes(d, mem, scratch, texts, line),
+// Scratch has to fit the limits too.
+fn limited(mem: &mut [u64], scratch: usize, limits: Limits) -> Edited {
+    if !layout::buffers_ok(slots_alone(limits, 0, false), mem.len(), scratch) {
+        return Err(Refusal::BadBuffers);
     }
+    Ok(done(start(limits, mem)?))
+}
+
+fn done(document: Document) -> (Document, Reply) {
+    (document, Reply::Done)
+}
+
+fn ordered(document: Document) -> (Document, Reply) {
+    (document, Reply::Order)
+}
+
+fn made(new: NewNode) -> (Document, Reply) {
+    (new.document, Reply::Made(new.id))
+}
+
+fn found((document, was): (Document, bool)) -> (Document, Reply) {
+    (document, Reply::Found(was))
 }

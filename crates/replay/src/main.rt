@@ -8,26 +8,21 @@ mod input;
 
 use answer::Session;
 use buffers::{INPUT, MEMORY, OUT, SCRATCH, TEXTS};
+use edit::Store;
+use printing::sink::Sink;
+use std::fmt;
 
-fn main(rt: HostRuntime) {
-    let mut mem = [0u64; MEMORY];
-    let mut scratch = [0u64; SCRATCH];
-    let mut texts = [0u8; TEXTS];
-    let mut bytes = [0u8; INPUT];
-    let mut out = [0u8; OUT];
-    let session = Session {
-        document: edit::fresh(&mut mem),
-        at: 0,
+fn main(rt: HostRuntime) -> fmt::Result {
+    let mut mem = [0; MEMORY];
+    let mut scratch = [0; SCRATCH];
+    let mut texts = [0; TEXTS];
+    let mut bytes = [0; INPUT];
+    let mut out = [0; OUT];
+    let mut session = Session {
+        store: Store::new(&mut mem, &mut scratch),
+        texts: &mut texts,
+        out: Sink::new(&mut out),
         lines: 0,
-        long: false,
     };
-    input::replay(
-        rt.stdin(),
-        session,
-        &mut mem,
-        &mut scratch,
-        &mut texts,
-        &mut bytes,
-        &mut out,
-    );
+    input::replay(rt.stdin(), &mut session, &mut bytes)
 }

@@ -14,7 +14,7 @@ use Rattle.slots.specs.Regions.{free_at}
 use Rattle.slots.specs.Slots.{has_slot}
 use Rattle.model.specs.Kinds.{Which}
 use Rattle.model.specs.Doc.{Doc, resolves}
-use Rattle.model.specs.Calls.{full_unless, slot_fits_from, slot_fits, room_fits, node_fits}
+use Rattle.model.specs.Calls.{slot_fits_from, slot_fits, room_fits, node_fits}
 use Rattle.layout.specs.declared.Document.{Document}
 use Rattle.memory.specs.Decode.{slots_part, slots_made, slots_free, pool_in, names_in, lengths_add, decode}
 use Rattle.memory.proofs.Columns.{length-gens}
@@ -55,13 +55,13 @@ module _ (D : Doc) (w : Which) (h : ℕ) (t : Bool) (e : t ≡ (resolves D h && 
   pub node-no : t ≡ false → false ≡ (resolves D h && node_fits D w h)
   node-no q = both-no t (resolves D h) (slot_fits D) (room_fits D w h) e q
 
--- ---- Full, of a node with what else it takes
+-- ---- a node with what else it takes
 module _ (D : Doc) (w : Which) (h : ℕ) (live : resolves D h ≡ true) (t x : Bool) (e : t ≡ x) where
-  pub fits_both : t ≡ true → (u : Bool) → u ≡ (resolves D h && node_fits D w h) → (v : ℕ) → v ≡ full_unless u → v ≡ full_unless (x && node_fits D w h)
-  fits_both k u q v s =
+  pub fits_both : t ≡ true → (u : Bool) → u ≡ (resolves D h && node_fits D w h) → u ≡ (x && node_fits D w h)
+  fits_both k u q =
       let a : u ≡ node_fits D w h = rw live at q in
       let b : (x && node_fits D w h) ≡ node_fits D w h = rw (sym e ∙ k) in
-      s ∙ ap full_unless (a ∙ sym b)
+      a ∙ sym b
 
-  pub fits-neither : t ≡ false → (v : ℕ) → v ≡ full_unless false → v ≡ full_unless (x && node_fits D w h)
-  fits-neither k v s = s ∙ sym (rw (← e, k))
+  pub fits-neither : t ≡ false → t ≡ (x && node_fits D w h)
+  fits-neither k = k ∙ sym (rw (← e, k))

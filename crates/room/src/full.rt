@@ -15,10 +15,11 @@ ghost use Rattle.memory.specs.Undamaged.{Undamaged};
 
 use layout::{Arena, Document, arena_limit};
 use memory::parts::arena_words;
-use memory::read::{arena_used, free, made, range_of, resolve};
-use memory::stored::{name_counts, name_limits, names_words, text_counts, text_limits};
-use records::{Loaded, NodeId, Range};
-use verdicts::verdict::{Verdict, full_unless};
+use memory::read::{arena_used, block_in, free, made, range_of, resolve};
+use memory::stored::{name_table, text_counts, text_limits};
+use model::Refusal;
+use records::{NodeId, Range};
+use verdicts::verdict::full_unless;
 
 // A slot when one is free or can be made.
 pub fn slot_fits(d: Document) -> bool
@@ -35,13 +36,7 @@ fn block_fits(d: Document, mem: &[u64], arena: Arena, block: Range) -> bool
 {
     let limit = arena_limit(d.limits, arena);
     let used = arena_used(d, arena);
-    blocks::room_for(
-        arena_words(d, mem, arena),
-        limit,
-        used,
-        block.start as usize,
-        block.len as usize,
-    )
+    blocks::room_for(arena_words(d, mem, arena), limit, used, block_in(block))
 }
 
 // The same for the list of a node.
@@ -50,8 +45,8 @@ pub fn room_fits(d: Document, mem: &[u64], arena: Arena, id: NodeId) -> bool
     ensures { result ≡ (resolves (decode d mem.now) (word_of id) && room_fits (decode d mem.now) (which_of arena) (word_of id)) }
 {
     match resolve(d, mem, id) {
-        Loaded::Found(node) => block_fits(d, mem, arena, range_of(node, arena)),
-        Loaded::NoNode => false,
+        Some(node) => block_fits(d, mem, arena, range_of(node, arena)),
+        None => false,
     }
 }
 
@@ -60,11 +55,7 @@ pub fn node_fits(d: Document, mem: &[u64], arena: Arena, id: NodeId) -> bool
     requires { Undamaged d mem.now }
     ensures { result ≡ (resolves (decode d mem.now) (word_of id) && node_fits (decode d mem.now) (which_of arena) (word_of id)) }
 {
-    if room_fits(d, mem, arena, id) {
-        slot_fits(d)
-    } else {
-        false
-    }
+    room_fits(d, mem, arena, id) && slot_fits(d)
 }
 
 // Text slots, and text bytes once off are given back and on added.
@@ -79,7 +70,7 @@ pub fn texts_fit(d: Document, slots: usize, off: usize, on: usize) -> bool
 fn slots_for(text: &[u8]) -> usize
     ensures { result ≡ slots_for text.now }
 {
-    if text.len() == 0 { 0 } else { 1 }
+    usize::from(!text.is_empty())
 }
 
 // One new text.
@@ -104,24 +95,20 @@ pub fn name_fits(d: Document, mem: &[u64], namespace: &[u8], local: &[u8]) -> bo
     requires { Undamaged d mem.now }
     ensures { result ≡ name_fits_in (decode d mem.now) (name namespace.now local.now) }
 {
-    names::interning::name_fits(
-        names_words(d, mem),
-        name_limits(d),
-        name_counts(d),
-        namespace,
-        local,
-    )
+    name_table(d, mem).name_fits(namespace, local)
 }
 
 // Full, of a new node with one text in the list of a live node.
-pub fn text_node_fits(d: Document, mem: &[u64], arena: Arena, id: NodeId, text: &[u8]) -> Verdict
+pub fn text_node_fits(
+    d: Document,
+    mem: &[u64],
+    arena: Arena,
+    id: NodeId,
+    text: &[u8],
+) -> Result<(), Refusal>
     requires undamaged { Undamaged d mem.now }
     requires id_value { resolves (decode d mem.now) (word_of id) ≡ true }
     ensures { verdict_number result ≡ full_unless (text_fits (decode d mem.now) (slots_for text.now) 0 (length text.now) && node_fits (decode d mem.now) (which_of arena) (word_of id)) }
 {
-    if text_fits(d, mem, text) {
-        full_unless(node_fits(d, mem, arena, id))
-    } else {
-        full_unless(false)
-    }
+    full_unless(text_fits(d, mem, text) && node_fits(d, mem, arena, id))
 }

@@ -1,48 +1,14 @@
 // One pass over a text by a rule, for bytes and for words that hold a byte each.
-ghost use Rattle.std.specs.Prelude.{◌≡◌, []};
-ghost use Rattle.std.proofs.Math.Option.{some};
+ghost use Rattle.std.specs.Prelude.{◌≡◌};
 ghost use Rattle.chars.specs.declared.State.TheVariants.{Start};
 ghost use Rattle.chars.specs.Utf8.{decode};
 ghost use Rattle.chars.specs.Checks.{is_literal, is_space};
-ghost use Rattle.chars.specs.Scan.{is_start, is_mark, has_failed, is_name, is_comment, inside_if, comment_next, pi_next, name_next, next, turn, may_end, verdict_after};
+ghost use Rattle.chars.specs.Scan.{inside_if, comment_next, pi_next, name_next, next, turn, may_end, verdict_after};
 
-use chars::utf8::{step_at, step_at_words};
+use chars::utf8::{Unit, step_at};
 use chars::xml::{is_expressible, is_xml_char};
-use chars::{Rule, State, Step, Verdict};
+use chars::{NotUtf8, Rule, State};
 use classes::class::class_of;
-
-fn is_start(state: State) -> bool
-    ensures { result ≡ is_start state }
-{
-    match state {
-        State::Start => true,
-        State::Inside => false,
-        State::Mark => false,
-        State::Failed => false,
-    }
-}
-
-fn is_mark(state: State) -> bool
-    ensures { result ≡ is_mark state }
-{
-    match state {
-        State::Start => false,
-        State::Inside => false,
-        State::Mark => true,
-        State::Failed => false,
-    }
-}
-
-fn has_failed(state: State) -> bool
-    ensures { result ≡ has_failed state }
-{
-    match state {
-        State::Start => false,
-        State::Inside => false,
-        State::Mark => false,
-        State::Failed => true,
-    }
-}
 
 fn inside_if(passes: bool) -> State
     ensures { result ≡ inside_if passes }
@@ -51,72 +17,63 @@ fn inside_if(passes: bool) -> State
 }
 
 // XML 1.0 Char without U+000D: a body is written verbatim, and a line end would be normalised.
+#[tactic(auto, unfolding(chars::specs::Checks::is_literal))]
 fn is_literal(c: u32) -> bool
     ensures { result ≡ is_literal c }
 {
-    if c == 0xD { false } else { is_xml_char(c) }
+    c != 0xD && is_xml_char(c)
 }
 
+#[tactic(auto, unfolding(chars::specs::Checks::is_space))]
 fn is_space(c: u32) -> bool
     ensures { result ≡ is_space c }
 {
-    match c {
-        0x20 | 0x9 | 0xA => true,
-        _ => false,
-    }
+    matches!(c, 0x20 | 0x9 | 0xA)
 }
 
+#[tactic(auto, unfolding(chars::specs::Scan::comment_next))]
 fn comment_next(state: State, c: u32) -> State
     ensures { result ≡ comment_next state c }
 {
     if !is_literal(c) {
         return State::Failed;
     }
-    if c != 0x2D {
-        return State::Inside;
-    }
-    if is_mark(state) {
-        State::Failed
-    } else {
-        State::Mark
+    match (c, state) {
+        (0x2D, State::Mark) => State::Failed,
+        (0x2D, _) => State::Mark,
+        _ => State::Inside,
     }
 }
 
+#[tactic(auto, unfolding(chars::specs::Scan::pi_next))]
 fn pi_next(state: State, c: u32) -> State
     ensures { result ≡ pi_next state c }
 {
     if !is_literal(c) {
         return State::Failed;
     }
-    if c == 0x3F {
-        return State::Mark;
-    }
-    if c != 0x3E {
-        return State::Inside;
-    }
-    if is_mark(state) {
-        State::Failed
-    } else {
-        State::Inside
+    match (c, state) {
+        (0x3F, _) => State::Mark,
+        (0x3E, State::Mark) => State::Failed,
+        _ => State::Inside,
     }
 }
 
+#[tactic(auto, unfolding(chars::specs::Scan::name_next))]
 fn name_next(state: State, c: u32) -> State
     ensures { result ≡ name_next state c }
 {
     if c == 0x3A {
         return State::Failed;
     }
-    let class = class_of(c);
-    if class == 2 {
-        return State::Inside;
+    match (class_of(c), state) {
+        (2, _) => State::Inside,
+        (_, State::Start) => State::Failed,
+        (class, _) => inside_if(class == 1),
     }
-    if is_start(state) {
-        return State::Failed;
-    }
-    inside_if(class == 1)
 }
 
+#[tactic(auto, unfolding(chars::specs::Scan::next))]
 fn next_state(rule: Rule, state: State, c: u32) -> State
     ensures { result ≡ next rule state c }
 {
@@ -131,97 +88,39 @@ fn next_state(rule: Rule, state: State, c: u32) -> State
     }
 }
 
+#[tactic(auto, unfolding(chars::specs::Scan::turn))]
 fn turned(rule: Rule, state: State, c: u32) -> State
     ensures { result ≡ turn rule state c }
 {
-    if has_failed(state) {
-        State::Failed
-    } else {
-        next_state(rule, state, c)
+    if state == State::Failed {
+        return state;
     }
+    next_state(rule, state, c)
 }
 
-fn is_name(rule: Rule) -> bool
-    ensures { result ≡ is_name rule }
-{
-    match rule {
-        Rule::Utf8 => false,
-        Rule::Text => false,
-        Rule::Literal => false,
-        Rule::Comment => false,
-        Rule::PiData => false,
-        Rule::Name => true,
-        Rule::WhiteSpace => false,
-    }
-}
-
-fn is_comment(rule: Rule) -> bool
-    ensures { result ≡ is_comment rule }
-{
-    match rule {
-        Rule::Utf8 => false,
-        Rule::Text => false,
-        Rule::Literal => false,
-        Rule::Comment => true,
-        Rule::PiData => false,
-        Rule::Name => false,
-        Rule::WhiteSpace => false,
-    }
-}
-
+#[tactic(auto, unfolding(chars::specs::Scan::may_end))]
 fn may_end(rule: Rule, state: State) -> bool
     ensures { result ≡ may_end rule state }
 {
     match state {
-        State::Start => !is_name(rule),
+        State::Start => rule != Rule::Name,
         State::Inside => true,
-        State::Mark => !is_comment(rule),
+        State::Mark => rule != Rule::Comment,
         State::Failed => false,
     }
 }
 
-fn verdict(rule: Rule, state: State) -> Verdict
-    ensures { result ≡ verdict_after rule state (some []) }
-{
-    if may_end(rule, state) {
-        Verdict::Holds
-    } else {
-        Verdict::Fails
-    }
-}
-
-// Reads the bytes of a text.
-pub fn scan(s: &[u8], rule: Rule) -> Verdict
-    ensures { result ≡ verdict_after rule Start (decode s.now) }
+// Reads a text; where it holds words, each is a byte if it is one.
+pub fn scan<T: Unit>(s: &[T], rule: Rule) -> Result<bool, NotUtf8>
+    ensures { result ≡ verdict_after rule Start (decode (T.numbers s.now)) }
 {
     let mut state = State::Start;
     let mut i = 0;
+    // Stays: a code point takes one number or more, so the index moves on by what was read.
     while i < s.len() {
-        match step_at(s, i) {
-            Step::Point { code, more } => {
-                state = turned(rule, state, code);
-                i = i + 1 + more;
-            }
-            Step::Bad => return Verdict::NotText,
-        }
+        let point = step_at(s, i).ok_or(NotUtf8)?;
+        state = turned(rule, state, point.code);
+        i += 1 + point.more;
     }
-    verdict(rule, state)
-}
-
-// Reads the words of a text, which hold a byte each if it is one.
-pub fn scan_words(s: &[u64], rule: Rule) -> Verdict
-    ensures { result ≡ verdict_after rule Start (decode s.now) }
-{
-    let mut state = State::Start;
-    let mut i = 0;
-    while i < s.len() {
-        match step_at_words(s, i) {
-            Step::Point { code, more } => {
-                state = turned(rule, state, code);
-                i = i + 1 + more;
-            }
-            Step::Bad => return Verdict::NotText,
-        }
-    }
-    verdict(rule, state)
+    Ok(may_end(rule, state))
 }

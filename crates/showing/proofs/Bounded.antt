@@ -6,20 +6,19 @@ use mathlib.Core.List.{List}
 use Prim.Native.Nat.{ℕ, ◌+◌, ◌≤◌, ◌<◌}
 use native.Mathlib.Omega.{arith}
 use lib.Dec.{leb}
-use borrow.Author.Tests.{le-leb, lt-leb, leb-true}
+use borrow.Author.Tests.{leb-true}
 use Rattle.blocks.specs.Arena.{Block, block}
 use Rattle.records.specs.Handles.{word_of, handle_index}
 use Rattle.records.specs.declared.NodeId.{NodeId}
 use Rattle.records.specs.declared.NodeData.{NodeData}
 use Rattle.records.specs.declared.NodeData.TheVariants as given
 use Rattle.records.specs.declared.Node.{Node}
-use Rattle.records.specs.declared.Range.{Range}
 use Rattle.records.proofs.Handles.{handle_index-word_of}
 use Rattle.model.specs.Kinds.{Which, children, attributes, namespaces, is_element}
 use Rattle.model.specs.Doc.{has_list, resolves, kind_at, range_in, shown_block}
 use Rattle.layout.specs.declared.Document.{Document}
 use Rattle.layout.specs.Layout.{entries_of}
-use Rattle.memory.specs.Decode.{kind_of, block_of, element_range, range_of, arena_used, decode}
+use Rattle.memory.specs.Decode.{kind_of, element_range, range_of, arena_used, decode}
 use Rattle.showing.proofs.Found.{by-node}
 
 -- a block, or an empty one where it is not within an arena of this length
@@ -60,14 +59,6 @@ module _ (d : Document) (mem : List ℕ) (h : NodeId) (hi : h.index < 4294967296
 
   pub block-stale : t ≡ false → block 0 0 ≡ shown_block (decode d mem) w (word_of h)
   block-stale f = sym (rw (sym e ∙ f))
-
--- the code's test of a block
-module _ (g : Range) (used : ℕ) where
-  pub within-arena : g.start + g.len ≤ used → block_of g ≡ cond (leb (g.start + g.len) used) (block_of g) (block 0 0)
-  within-arena h = rw (le-leb _ _ h)
-
-  pub past-arena : used < g.start + g.len → block 0 0 ≡ cond (leb (g.start + g.len) used) (block_of g) (block 0 0)
-  past-arena h = rw (lt-leb _ _ h)
 
 -- what is shown lies in the arena
 bounded-inside : (t : Bool) (e : Bool) (b : Block) (used : ℕ)

@@ -1,8 +1,8 @@
 -- What a handle shows in the decoded document, by the node that it resolves to.
 -- Assumes nothing.
+use Rattle.std.specs.Prelude.{Option, None, Some}
 use mathlib.Core.Path.{◌≡◌, refl, sym, ap, ◌∙◌}
 use mathlib.Core.Bool.{Bool, true, false, true≢false}
-use mathlib.Core.Option.{Option, none}
 use mathlib.Core.List.{List}
 use Prim.Native.Nat.{ℕ, ◌<◌}
 use lib.Dec.{eqb}
@@ -10,8 +10,6 @@ use Rattle.words.proofs.Tests.{and_left}
 use Rattle.records.specs.Handles.{word_of, handle_index, handle_generation}
 use Rattle.records.specs.declared.NodeId.{NodeId}
 use Rattle.records.specs.declared.Node.{Node}
-use Rattle.records.specs.declared.Loaded.{Loaded}
-use Rattle.records.specs.declared.Loaded.TheVariants.{Found, NoNode}
 use Rattle.records.proofs.Handles.{handle_index-word_of}
 use Rattle.texts.specs.Pool.{Pool}
 use Rattle.names.specs.Table.{Name}
@@ -30,7 +28,7 @@ pub record Shown (p : Pool) (names : List (Option Name)) (lengths : Bool) (d : D
   pub range : (a : Which) → range_in (decode_with p names lengths d mem) a (handle_index (word_of h)) ≡ range_of a m
 
 module _ (d : Document) (mem : List ℕ) (h : NodeId) (hi : h.index < 4294967296) (hg : h.generation < 4294967296) where
-  module _ (m : Node) (e : resolved_in d mem h ≡ Found m) where
+  module _ (m : Node) (e : resolved_in d mem h ≡ Some m) where
     pub shown : (p : Pool) (names : List (Option Name)) (lengths : Bool) → Shown p names lengths d mem h m
     shown p names lengths =
         let D = decode_with p names lengths d mem in
@@ -57,9 +55,9 @@ module _ (d : Document) (mem : List ℕ) (h : NodeId) (hi : h.index < 4294967296
   pub by-node : (P : Type 0) → t ≡ true → ((m : Node) → Shown (pool_in d mem) (names_in d mem) (lengths_add d mem) d mem h m → P) → P
   by-node P q f = go (resolved_in d mem h) refl
     where
-      go : (x : Loaded) → resolved_in d mem h ≡ x → P
-      go (Found m) r = f m (shown d mem h hi hg m r (pool_in d mem) (names_in d mem) (lengths_add d mem))
-      go NoNode r = absurd (true≢false (sym q ∙ e ∙ resolved-none (pool_in d mem) (names_in d mem) (lengths_add d mem) d mem h hi hg r))
+      go : (x : Option Node) → resolved_in d mem h ≡ x → P
+      go (Some m) r = f m (shown d mem h hi hg m r (pool_in d mem) (names_in d mem) (lengths_add d mem))
+      go None r = absurd (true≢false (sym q ∙ e ∙ resolved-none (pool_in d mem) (names_in d mem) (lengths_add d mem) d mem h hi hg r))
 
   pub element-shown : t ≡ true → (u : Bool) → u ≡ is_element (kind_in (decode d mem) h.index) → u ≡ shows_element (decode d mem) (word_of h)
   element-shown q u k =
@@ -70,6 +68,3 @@ module _ (d : Document) (mem : List ℕ) (h : NodeId) (hi : h.index < 4294967296
 
   pub parent-shown : t ≡ true → (o : Option ℕ) → o ≡ parent_in (decode d mem) h.index → o ≡ shown_parent (decode d mem) (word_of h)
   parent-shown q o p = p ∙ ap (parent_in (decode d mem)) (sym (handle_index-word_of h hi)) ∙ sym (rw (sym e ∙ q))
-
-  pub parent-stale : t ≡ false → none ≡ shown_parent (decode d mem) (word_of h)
-  parent-stale f = sym (rw (sym e ∙ f))

@@ -1,11 +1,9 @@
 -- The test of rule 2 says the rule, both ways, and what the functions that decide it cite.
 -- Assumes nothing.
-use Rattle.std.proofs.Common.{◌≡◌, ℕ, ◌+◌, ◌-◌, ◌%◌, ◌<◌, ◌≤◌, Bool, true, false, cond, eqb, ltb, List, length, get_or, take, drop, set, replicate, sym, refl, ap, ◌∙◌, add-one, arith, length-set, length-take-le, get_or-set_other, take-suc, get_or-set_same, ltb-true, le-ltb, lt-ltb, eq-eqb, ne_eqb, eqb-true}
+use Rattle.std.proofs.Common.{◌≡◌, ℕ, ◌+◌, ◌-◌, ◌%◌, ◌<◌, ◌≤◌, Bool, true, false, cond, eqb, ltb, List, length, get_or, take, drop, set, sym, refl, ap, ◌∙◌, add-one, arith, length-set, length-take-le, get_or-set_other, take-suc, get_or-set_same, ltb-true, le-ltb, lt-ltb, eq-eqb, ne_eqb, eqb-true}
 use mathlib.Core.Bool.{false≢true}
 use native.Mathlib.Nat.{sub-zero}
 use native.Mathlib.Decide.{ℕ_discrete}
-use lib.ListN.{get_or-replicate}
-use lib.Seq.{take-length}
 use Rattle.words.specs.Parts.{part}
 use Rattle.words.specs.Lists.{count_of, all_below}
 use Rattle.words.proofs.Parts.{lent, length_part}
@@ -42,15 +40,6 @@ pub record Counting (made : ℕ) (free marks₀ marks : List ℕ) (i : ℕ) : Ty
   pub counts : (s : ℕ) → s < made → get_or marks s 0 ≡ count_of (eqb s) (take i free)
 
 module _ (made : ℕ) (free marks₀ : List ℕ) where
-  pub counting-none : made ≤ length marks₀ → marks₀ ≡ replicate (length marks₀) 0 → Counting made free marks₀ marks₀ 0
-  counting-none b z = record {
-    at = omega arith;
-    room = b;
-    same = refl;
-    slots = refl;
-    counts = λ s h. ap (λ (l : List ℕ). get_or l s 0) z ∙ get_or-replicate (length marks₀) s 0 0 (omega arith);
-  }
-
   module _ (marks : List ℕ) (i : ℕ) (k : Counting made free marks₀ marks i) where
     pub counting-next : i < length free → get_or free i 0 < made → Counting made free marks₀ (set marks (get_or free i 0) (get_or marks (get_or free i 0) 0 + 1)) (i + 1)
     counting-next h p = record {
@@ -75,15 +64,6 @@ module _ (made : ℕ) (free marks₀ : List ℕ) where
       counts = λ e. absurd (false≢true e);
     }
 
-    pub counted-all : length free ≤ i → Counted made free marks true
-    counted-all h =
-        let e : i ≡ length free = omega (arith, k.at) in
-        let w : take i free ≡ free = rw e (take-length free) in
-        record {
-          answer = sym (rw e at k.slots);
-          counts = λ _ s b. rw w at (k.counts s b);
-        }
-
 -- ---- comparing the marks
 
 module _ (gens marks : List ℕ) (s : ℕ) where
@@ -98,11 +78,6 @@ module _ (gens marks : List ℕ) (s : ℕ) where
   pub match-not : s < length gens → (get_or marks s 0 ≡ get_or gens s 0 % 2 → ⊥) → false ≡ marks_match (length gens) gens marks
   unfolding marks_match
   match-not b ne = sym (all_below-not _ (length gens) s b (ne_eqb _ _ ne))
-
-  pub match-all : s ≤ length gens → length gens ≤ s → marks_match s gens marks ≡ true → true ≡ marks_match (length gens) gens marks
-  match-all a b h =
-      let e : s ≡ length gens = omega arith in
-      sym (rw e at h)
 
 -- ---- both together
 

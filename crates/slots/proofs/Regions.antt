@@ -1,5 +1,6 @@
 -- What each reader of the lent part finds after each writer: the new value at its own place, and what was there everywhere else.
 -- Assumes nothing.
+use Rattle.std.specs.Prelude.{Some}
 use Rattle.std.proofs.Common.{◌≡◌, ℕ, ◌+◌, ◌<◌, ◌≤◌, ◌⊎◌, List, [], ◌∷◌, length, get_or, set, replicate, sym, ap, ◌∙◌, inl, inr, ⊎_elim, arith, length-set, get_or-set_other, get_or-set_same}
 use native.Mathlib.Decide.{dec_lt}
 use lib.ListN.{length-replicate, get_or-replicate}
@@ -7,7 +8,6 @@ use Rattle.words.specs.Parts.{part, put}
 use Rattle.words.proofs.Parts.{set-put, length-put, get_or-part, part-put-same, part-put-before, part-put-after, get_or-put-before, get_or-put-after}
 use Rattle.records.specs.declared.NodeRecord.{NodeRecord}
 use Rattle.records.specs.declared.Node.{Node}
-use Rattle.records.specs.declared.Loaded.TheVariants.{Found}
 use Rattle.records.specs.Records.{read_record, record_words, record_of, node_of, zero_root}
 use Rattle.records.specs.Fields.{NodeFits}
 use Rattle.slots.specs.Regions.{slots_words, record_start, order_start, generation_at, free_at, record_at, node_at, order_at, put_generation, put_free, put_record, put_order, clear_order}
@@ -171,7 +171,7 @@ module _ (n : ℕ) (w : List ℕ) (long : slots_words n ≤ length w) where
 
   -- ---- a node that was stored is loaded again, and in every other slot what was there
   module _ (s : ℕ) (m : Node) (b : s < n) where
-    pub node_at-put_record : NodeFits m → node_at n (put_record n w s (record_of m)) s ≡ Found m
+    pub node_at-put_record : NodeFits m → node_at n (put_record n w s (record_of m)) s ≡ Some m
     unfolding node_at
     node_at-put_record f = ap node_of (record_at-put_record s (record_of m) b) ∙ node-back m f
 
@@ -179,11 +179,11 @@ module _ (n : ℕ) (w : List ℕ) (long : slots_words n ≤ length w) where
     node_at-put_record-other t ne = node_at-record_at n (put_record n w s (record_of m)) w t t (record_at-put_record-other s (record_of m) b t ne)
 
 -- what was loaded fits, and its words are those of the slot
-pub node_at-fits : (n : ℕ) (w : List ℕ) (s : ℕ) (m : Node) → node_at n w s ≡ Found m → NodeFits m
+pub node_at-fits : (n : ℕ) (w : List ℕ) (s : ℕ) (m : Node) → node_at n w s ≡ Some m → NodeFits m
 unfolding node_at
 node_at-fits n w s m e = found-fits (record_at n w s) m e
 
-pub record_at-node_at : (n : ℕ) (w : List ℕ) (s : ℕ) (m : Node) → node_at n w s ≡ Found m → record_at n w s ≡ record_of m
+pub record_at-node_at : (n : ℕ) (w : List ℕ) (s : ℕ) (m : Node) → node_at n w s ≡ Some m → record_at n w s ≡ record_of m
 unfolding node_at
 record_at-node_at n w s m e = sym (record-back (record_at n w s) m e)
 
@@ -199,9 +199,9 @@ module _ (n k : ℕ) (long : slots_words n ≤ k) (s : ℕ) (b : s < n) where
   order_at-zero = get_or-replicate k (order_start n + s) 0 0 (omega arith)
 
   -- zero words are a Root with no parent and no children
-  pub node_at-zero : node_at n (replicate k 0) s ≡ Found zero_root
+  pub node_at-zero : node_at n (replicate k 0) s ≡ Some zero_root
   unfolding node_at record_at record_of
   node_at-zero = ap (λ (l : List ℕ). node_of (read_record l)) (part-replicate (record_start n s) 12 k 0 (omega arith)) ∙ zero-found
     where
-      zero-found : node_of (read_record (replicate 12 0)) ≡ Found zero_root
+      zero-found : node_of (read_record (replicate 12 0)) ≡ Some zero_root
       zero-found = node-back zero_root (record { fits-data = tt; fits-parent = tt; fits-children = (omega arith, omega arith) })

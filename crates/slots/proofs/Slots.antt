@@ -1,60 +1,37 @@
 -- Handles that resolve, and slots that are taken and freed: each way through the definitions, and what they tell.
 -- Assumes nothing.
-use Rattle.std.proofs.Common.{◌≡◌, ℕ, ◌+◌, ◌-◌, ◌%◌, ◌<◌, ◌≤◌, Bool, true, false, cond, ◌&&◌, ◌||◌, eqb, ltb, List, get_or, set, sym, refl, ap, ◌∙◌, subst, arith, ltb-true, le-ltb, lt-ltb, eq-eqb, ne_eqb, eqb-true}
+use Rattle.std.specs.Prelude.{None, Some}
+use Rattle.std.proofs.Common.{◌≡◌, ℕ, ◌+◌, ◌-◌, ◌%◌, ◌<◌, ◌≤◌, Bool, true, false, cond, ◌&&◌, ◌||◌, eqb, ltb, List, get_or, set, sym, refl, ap, ◌∙◌, subst, arith, ltb-true, le-ltb, lt-ltb, eq-eqb, eqb-true}
 use mathlib.Core.Bool.{false≢true}
 use native.Mathlib.Decide.{dec_lt}
 use Rattle.words.proofs.Tests.{and_left, and_right}
 use Rattle.records.specs.declared.NodeId.{NodeId}
 use Rattle.records.specs.declared.Node.{Node}
-use Rattle.records.specs.declared.Loaded.{Loaded}
-use Rattle.records.specs.declared.Loaded.TheVariants.{Found, NoNode}
 use Rattle.slots.specs.declared.slot.Taken.{Taken}
 use Rattle.records.specs.Records.{is_node, found_node, node_of}
-use Rattle.slots.specs.Regions.{generation_at, free_at, record_at, node_at, put_generation, put_free, put_order, no_position}
-use Rattle.slots.specs.Slots.{up, is_current, resolves, resolved, taken, taken_generations, taken_words, CanTake, freed_words}
+use Rattle.slots.specs.Regions.{generation_at, free_at, record_at, node_at, put_generation, put_order, no_position}
+use Rattle.slots.specs.Slots.{up, is_current, resolves, resolved, taken, taken_generations, taken_words, CanTake}
 use Rattle.records.proofs.Records.{is-node-found, found-is-node}
 
 -- ---- handles
 
 module _ (n : ℕ) (w : List ℕ) (made : ℕ) (h : NodeId) where
-  stale : is_current n w made h ≡ false → NoNode ≡ resolved n w made h
-  unfolding resolved
-  stale e = rw e
-
-  -- each test of a handle
-  pub not_made : made ≤ h.index → NoNode ≡ resolved n w made h
-  unfolding is_current
-  not_made b = stale (rw (le-ltb _ _ b))
-
-  module _ (b : h.index < made) (g : ℕ) (q : g ≡ generation_at n w h.index) where
-    pub other-generation : (g ≡ h.generation → ⊥) → NoNode ≡ resolved n w made h
-    unfolding is_current
-    other-generation ne = stale (rw (lt-ltb _ _ b, ← q, ne_eqb _ _ ne))
-
-    pub odd-generation : g ≡ h.generation → (h.generation % 2 ≡ 0 → ⊥) → NoNode ≡ resolved n w made h
-    unfolding is_current
-    odd-generation e ne = stale (rw (lt-ltb _ _ b, ← q, eq-eqb _ _ e, ne_eqb _ _ ne))
-
-    pub current : g ≡ h.generation → h.generation % 2 ≡ 0 → (m : Loaded) → m ≡ node_at n w h.index → m ≡ resolved n w made h
-    unfolding is_current resolved
-    current e even m k = rw (lt-ltb _ _ b, ← q, eq-eqb _ _ e, eq-eqb _ _ even) k
-
   -- what a handle that resolves tells
-  pub resolves-found : (m : Node) → resolved n w made h ≡ Found m → resolves n w made h ≡ true
+  pub resolves-found : (m : Node) → resolved n w made h ≡ Some m → resolves n w made h ≡ true
   unfolding resolved resolves node_at
   resolves-found m e = go (is_current n w made h) e
     where
-      go : (t : Bool) → cond t (node_of (record_at n w h.index)) NoNode ≡ Found m → (t && is_node (record_at n w h.index)) ≡ true
+      go : (t : Bool) → cond t (node_of (record_at n w h.index)) None ≡ Some m → (t && is_node (record_at n w h.index)) ≡ true
       go true e = found-is-node (record_at n w h.index) m e
       go false e =
           let z : ◌≡◌ {A = ℕ} 0 1 = cc in
           absurd (omega arith)
 
-  pub resolves-none : resolved n w made h ≡ NoNode → resolves n w made h ≡ false
+  pub resolves-none : resolved n w made h ≡ None → resolves n w made h ≡ false
   unfolding resolved resolves node_at
   resolves-none e = go (is_current n w made h) (is_node (record_at n w h.index)) refl e
     where
-      go : (t u : Bool) → is_node (record_at n w h.index) ≡ u → cond t (node_of (record_at n w h.index)) NoNode ≡ NoNode → (t && u) ≡ false
+      go : (t u : Bool) → is_node (record_at n w h.index) ≡ u → cond t (node_of (record_at n w h.index)) None ≡ None → (t && u) ≡ false
       go true true k e =
           let f = is-node-found (record_at n w h.index) k in
           let z : ◌≡◌ {A = ℕ} 0 1 = cc in
@@ -62,7 +39,7 @@ module _ (n : ℕ) (w : List ℕ) (made : ℕ) (h : NodeId) where
       go true false k e = refl
       go false u k e = refl
 
-  pub resolved-found : resolves n w made h ≡ true → resolved n w made h ≡ Found (found_node (record_at n w h.index))
+  pub resolved-found : resolves n w made h ≡ true → resolved n w made h ≡ Some (found_node (record_at n w h.index))
   unfolding resolved resolves node_at
   resolved-found e =
       let t = and_left (is_current n w made h) (is_node (record_at n w h.index)) e in
@@ -90,10 +67,6 @@ module _ (n : ℕ) (w : List ℕ) (made : ℕ) (h : NodeId) where
   current-resolves k e = rw (lt-ltb _ _ k.made-slot, eq-eqb _ _ k.same-generation, eq-eqb _ _ k.even-generation, e)
 
 -- ---- taking a slot
-
-pub raised : (n : ℕ) (w : List ℕ) (s g : ℕ) → g ≡ up (get_or w s 0) → (g ≡ up (generation_at n w s)) × (set w s g ≡ put_generation n w s (up (generation_at n w s)))
-unfolding generation_at put_generation
-raised n w s g e = (e, ap (set w s) e)
 
 module _ (n : ℕ) (w : List ℕ) (made free : ℕ) where
   -- the slot on top of the free stack
@@ -131,9 +104,9 @@ module _ (n : ℕ) (w : List ℕ) (made free : ℕ) where
       rw (le-ltb 0 free z, e) (refl, refl)
 
   -- the slot taken, and its order word
-  pub taken-below : CanTake n w made free → (t : Taken) → t ≡ taken n w made free → t.id.index < n
+  pub taken_below : CanTake n w made free → (t : Taken) → t ≡ taken n w made free → t.id.index < n
   unfolding taken free_at
-  taken-below k t e = subst (λ (x : Taken). x.id.index < n) (sym e) (go (dec_lt 0 free))
+  taken_below k t e = subst (λ (x : Taken). x.id.index < n) (sym e) (go (dec_lt 0 free))
     where
       go : Dec (0 < free) → cond (ltb 0 free) (get_or w (n + (free - 1)) 0) made < n
       go (yes b) = rw (lt-ltb 0 free b) (top k b).slot
@@ -143,10 +116,3 @@ module _ (n : ℕ) (w : List ℕ) (made free : ℕ) where
       → (t ≡ taken n w made free) × (u ≡ taken_words n w made free)
   unfolding taken taken_words
   unplaced t v u e q = (e.0, q ∙ ap (λ (x : List ℕ). put_order n x t.id.index no_position) e.1 ∙ ap (λ (x : Taken). put_order n (taken_generations n w made free) x.id.index no_position) e.0)
-
--- ---- freeing a slot
-
-pub freed : (n : ℕ) (w v : List ℕ) (free s g : ℕ) → (g ≡ up (generation_at n w s)) × (v ≡ put_generation n w s (up (generation_at n w s)))
-    → set v (n + free) s ≡ freed_words n w free s
-unfolding freed_words put_free
-freed n w v free s g e = rw e.1

@@ -1,12 +1,10 @@
 -- What the readers and writers of the lent part cite.
 -- Assumes nothing.
-use Rattle.std.proofs.Common.{◌≡◌, ℕ, ◌+◌, ◌-◌, ◌<◌, ◌≤◌, List, ◌++◌, take, drop, refl, ap, ◌∙◌, le-ltb, lt-ltb}
+use Rattle.std.proofs.Common.{◌≡◌, ℕ, ◌+◌, ◌-◌, List, ◌++◌, take, drop, refl, ap, ◌∙◌}
 use Rattle.words.proofs.Parts.{lent, returned}
-use Rattle.records.specs.declared.Loaded.{Loaded}
-use Rattle.slots.specs.declared.OrderKey.TheVariants.{None, At}
 use Rattle.records.specs.declared.NodeRecord.{NodeRecord}
-use Rattle.records.specs.Records.{read_record, record_words, node_of}
-use Rattle.slots.specs.Regions.{record_start, record_at, node_at, put_record, key_of}
+use Rattle.records.specs.Records.{read_record, record_words}
+use Rattle.slots.specs.Regions.{record_start, record_at, put_record}
 
 -- a record's part, lent and returned
 pub record-read : (n : ℕ) (w : List ℕ) (s : ℕ) (r : NodeRecord) → r ≡ read_record (take (record_start n s + 12 - record_start n s) (drop (record_start n s) w)) → r ≡ record_at n w s
@@ -17,15 +15,3 @@ pub record-written : (n : ℕ) (w ys : List ℕ) (s : ℕ) (r : NodeRecord) → 
     → take (record_start n s) w ++ (ys ++ drop (record_start n s + 12 - record_start n s) (drop (record_start n s) w)) ≡ put_record n w s r
 unfolding put_record
 record-written n w ys s r e = rw e (returned w (record_words r) (record_start n s) 12 refl)
-
-pub node-read : (n : ℕ) (w : List ℕ) (s : ℕ) (r : NodeRecord) (m : Loaded) → r ≡ record_at n w s → m ≡ node_of r → m ≡ node_at n w s
-unfolding node_at
-node-read n w s r m e f = f ∙ ap node_of e
-
-pub key-some : (k word : ℕ) → k ≡ word → k < 4294967295 → At k ≡ key_of word
-unfolding key_of
-key-some k word e h = rw (← e, lt-ltb k 4294967295 h)
-
-pub key-none : (k word : ℕ) → k ≡ word → 4294967295 ≤ k → None ≡ key_of word
-unfolding key_of
-key-none k word e h = rw (← e, le-ltb k 4294967295 h)

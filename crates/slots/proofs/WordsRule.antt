@@ -1,10 +1,9 @@
 -- The test of the slots' words says rule 1 of them, both ways, and what the functions that decide it cite.
 -- Assumes nothing.
-use Rattle.std.proofs.Common.{◌≡◌, ℕ, ◌+◌, ◌%◌, ◌<◌, ◌≤◌, Bool, true, false, not, ◌&&◌, ◌||◌, eqb, ltb, List, sym, refl, ◌∙◌, arith, ltb-true, le-ltb, lt-ltb, eq-eqb, ne_eqb}
+use Rattle.std.proofs.Common.{◌≡◌, ℕ, ◌+◌, ◌%◌, ◌<◌, Bool, true, false, not, ◌&&◌, ◌||◌, eqb, ltb, List, sym, refl, ◌∙◌, ltb-true, lt-ltb, eq-eqb, ne_eqb}
 use native.Mathlib.Decide.{ℕ_discrete}
 use Rattle.words.proofs.Lists.{all_below-at, at-all_below, all_below-next, all_below-not}
 use Rattle.words.proofs.Tests.{and_left, and_right, and_both}
-use Rattle.records.specs.declared.NodeRecord.{NodeRecord}
 use Rattle.records.specs.Records.{is_node}
 use Rattle.slots.specs.Regions.{generation_at, record_at, order_at}
 use Rattle.slots.specs.WordsRule.{WordsRule, slot_words, words_rule}
@@ -44,26 +43,6 @@ module _ (n : ℕ) (w : List ℕ) where
         go (yes e) = rw (eq-eqb _ _ e) (r.node e)
         go (no ne) = rw (ne_eqb _ _ ne)
 
-    -- each way of the test
-    module _ (g : ℕ) (q : g ≡ generation_at n w s) where
-      pub wide-generation : 4294967296 ≤ g → false ≡ slot_words n w s
-      unfolding slot_words
-      wide-generation h = rw (← q, le-ltb _ _ h)
-
-      module _ (b : g < 4294967296) (o : ℕ) (p : o ≡ order_at n w s) where
-        pub wide-order : 4294967296 ≤ o → false ≡ slot_words n w s
-        unfolding slot_words
-        wide-order h = rw (← q, ← p, lt-ltb _ _ b, le-ltb _ _ h)
-
-        module _ (c : o < 4294967296) where
-          pub freed-slot : (g % 2 ≡ 0 → ⊥) → true ≡ slot_words n w s
-          unfolding slot_words
-          freed-slot ne = rw (← q, ← p, lt-ltb _ _ b, lt-ltb _ _ c, ne_eqb _ _ ne)
-
-          pub live-slot : g % 2 ≡ 0 → (r : NodeRecord) (t : Bool) → r ≡ record_at n w s → t ≡ is_node r → t ≡ slot_words n w s
-          unfolding slot_words
-          live-slot e r t er et = rw (← q, ← p, lt-ltb _ _ b, lt-ltb _ _ c, eq-eqb _ _ e, ← er) et
-
   -- ---- all slots made
   pub words-rule-of : (made : ℕ) → words_rule n w made ≡ true → WordsRule n w made
   unfolding words_rule
@@ -88,8 +67,3 @@ module _ (n : ℕ) (w : List ℕ) where
   pub words-not : (made s : ℕ) (t : Bool) → s < made → t ≡ slot_words n w s → t ≡ false → false ≡ words_rule n w made
   unfolding words_rule
   words-not made s t b e q = sym (all_below-not (slot_words n w) made s b (sym e ∙ q))
-
-  pub words-all : (made s : ℕ) → s ≤ made → made ≤ s → words_rule n w s ≡ true → true ≡ words_rule n w made
-  words-all made s a b h =
-      let e : s ≡ made = omega arith in
-      sym (rw e at h)

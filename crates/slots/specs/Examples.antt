@@ -1,8 +1,6 @@
 -- 01, "Bench examples": what the starred examples 1, 2 and 6 say of slots and handles.
-use Rattle.std.specs.Prelude.{◌≡◌, ℕ, true, false, List, replicate}
+use Rattle.std.specs.Prelude.{◌≡◌, ℕ, true, false, List, replicate, Some}
 use Rattle.records.specs.declared.NodeId.{NodeId}
-use Rattle.records.specs.declared.Chars.TheVariants.{Expanded}
-use Rattle.records.specs.declared.Parent.TheVariants.{Of}
 use Rattle.records.specs.declared.NodeData.TheVariants.{Text}
 use Rattle.records.specs.declared.Node.{Node}
 use Rattle.records.specs.Records.{record_of}
@@ -14,7 +12,7 @@ handle i g = record { index = i; generation = g }
 
 -- a text of slot 0 under the handle (1, 0)
 abbrev pub text : Node
-text = record { «data» = Text (Expanded (record { 0 = 0 })); parent = Of (handle 1 0); children = record { start = 0; len = 0 } }
+text = record { «data» = Text (Some (record { 0 = 0 })); parent = Some (handle 1 0); children = record { start = 0; len = 0 } }
 
 -- room for four slots, of which the Root's is made: all words zero
 abbrev pub fresh : List ℕ

@@ -1,10 +1,8 @@
 -- The one part that the crate is lent: for n slots the generations, n words; the free stack, n; the node records, 12 n; the order words, n.
-use Rattle.std.specs.Prelude.{ℕ, ◌+◌, ◌*◌, cond, List, replicate, nat_lt, slice_index, slice_set}
+use Rattle.records.specs.declared.Node.{Node}
+use Rattle.std.specs.Prelude.{ℕ, ◌+◌, ◌*◌, cond, List, replicate, nat_lt, slice_index, slice_set, Option, None, Some}
 use Rattle.words.specs.Parts.{part, put}
-use Rattle.records.specs.declared.Loaded.{Loaded}
 use Rattle.records.specs.declared.NodeRecord.{NodeRecord}
-use Rattle.slots.specs.declared.OrderKey.{OrderKey}
-use Rattle.slots.specs.declared.OrderKey.TheVariants.{None, At}
 use Rattle.records.specs.Records.{read_record, record_words, node_of}
 
 abbrev pub slots_words : ℕ → ℕ
@@ -30,7 +28,7 @@ module _ (n : ℕ) (w : List ℕ) where
   unfoldable pub record_at : ℕ → NodeRecord
   record_at s = read_record (part (record_start n s) 12 w)
 
-  unfoldable pub node_at : ℕ → Loaded
+  unfoldable pub node_at : ℕ → Option Node
   node_at s = node_of (record_at s)
 
   -- a slot's order word
@@ -59,5 +57,5 @@ unfoldable pub clear_order : ℕ → List ℕ → ℕ → List ℕ
 clear_order n w made = put (order_start n) (replicate made no_position) w
 
 -- 01: "no key for an order word above 32 bits"
-unfoldable pub key_of : ℕ → OrderKey
-key_of word = cond (nat_lt word no_position) (At word) None
+unfoldable pub key_of : ℕ → Option ℕ
+key_of word = cond (nat_lt word no_position) (Some word) None

@@ -1,8 +1,7 @@
 -- Handles that resolve, and slots that are taken and freed.
-use Rattle.std.specs.Prelude.{◌≡◌, ℕ, ◌+◌, ◌-◌, ◌%◌, ◌<◌, ◌≤◌, Bool, true, cond, ◌&&◌, ◌||◌, List, length, ◌==◌, nat_lt}
+use Rattle.records.specs.declared.Node.{Node}
+use Rattle.std.specs.Prelude.{◌≡◌, ℕ, ◌+◌, ◌-◌, ◌%◌, ◌<◌, ◌≤◌, Bool, true, cond, ◌&&◌, ◌||◌, List, length, ◌==◌, nat_lt, Option, None}
 use Rattle.records.specs.declared.NodeId.{NodeId}
-use Rattle.records.specs.declared.Loaded.{Loaded}
-use Rattle.records.specs.declared.Loaded.TheVariants.{NoNode}
 use Rattle.slots.specs.declared.slot.Taken.{Taken}
 use Rattle.records.specs.Records.{is_node}
 use Rattle.slots.specs.Regions.{slots_words, generation_at, free_at, record_at, node_at, put_generation, put_free, put_order, no_position}
@@ -20,8 +19,8 @@ unfoldable pub resolves : ℕ → List ℕ → ℕ → NodeId → Bool
 resolves n w made h = is_current n w made h && is_node (record_at n w h.index)
 
 -- the node that a handle resolves to
-unfoldable pub resolved : ℕ → List ℕ → ℕ → NodeId → Loaded
-resolved n w made h = cond (is_current n w made h) (node_at n w h.index) NoNode
+unfoldable pub resolved : ℕ → List ℕ → ℕ → NodeId → Option Node
+resolved n w made h = cond (is_current n w made h) (node_at n w h.index) None
 
 -- ---- a slot is taken: n slots at most, `made` of them made, `free` of them on the free stack
 

@@ -4,10 +4,3 @@
 pub mod region;
 pub mod rule;
 pub mod slot;
-
-// A slot's position in document order, if it has one.
-#[derive(Clone, Copy)]
-pub enum OrderKey {
-    None,
-    At(u32),
-}

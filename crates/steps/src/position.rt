@@ -20,13 +20,6 @@ pub struct Position {
     pub left: usize,
 }
 
-// A step's outcome.
-#[derive(Clone, Copy)]
-pub enum Walked {
-    At(Position),
-    End,
-}
-
 // At the zone itself; so many nodes may be listed.
 pub fn start(nodes: usize, zone: u64) -> Position
     ensures { result ≡ start nodes zone }
@@ -49,33 +42,26 @@ pub fn hint_for(p: Hints, len: usize) -> usize
     ensures { result ≡ hint_for p len }
 {
     if len < 16 {
-        return p.short;
+        p.short
+    } else if len < 256 {
+        p.middling
+    } else if len < 4096 {
+        p.long
+    } else {
+        p.longest
     }
-    if len < 256 {
-        return p.middling;
-    }
-    if len < 4096 {
-        return p.long;
-    }
-    p.longest
 }
 
 pub fn with_hint(p: Hints, len: usize, k: usize) -> Hints
     ensures { result ≡ with_hint p len k }
 {
-    let mut q = p;
     if len < 16 {
-        q.short = k;
-        return q;
+        Hints { short: k, ..p }
+    } else if len < 256 {
+        Hints { middling: k, ..p }
+    } else if len < 4096 {
+        Hints { long: k, ..p }
+    } else {
+        Hints { longest: k, ..p }
     }
-    if len < 256 {
-        q.middling = k;
-        return q;
-    }
-    if len < 4096 {
-        q.long = k;
-        return q;
-    }
-    q.longest = k;
-    q
 }

@@ -5,7 +5,7 @@ use mathlib.Core.Bool.{Bool, true, false, cond, and-true}
 use mathlib.Core.List.{List, [], ◌++◌}
 use Prim.Native.Nat.{ℕ, ◌+◌, ◌-◌, ◌*◌, ◌≤◌}
 use native.Mathlib.Omega.{arith}
-use lib.ListN.{length, take, drop, replicate}
+use lib.ListN.{length, take, drop, replicate, length-replicate}
 use lib.Dec.{leb}
 use borrow.Author.Tests.{leb-true}
 use Rattle.words.specs.Parts.{part, put}
@@ -136,8 +136,12 @@ pub text-marks-at : (l : given.Limits) → 4 * l.nodes + l.children + l.attribut
 unfolding text_marks_at
 text-marks-at l = refl
 
-pub cleared_at : (at used p u : ℕ) (before after : List ℕ) → at ≡ p → used ≡ u → after ≡ put at (replicate used 0) before → after ≡ put p (replicate u 0) before
-cleared_at at used p u before after e f q = q ∙ ap₂ (λ (i n : ℕ). put i (replicate n 0) before) e f
+pub cleared_at : (at used p u : ℕ) (before marks : List ℕ) → at ≡ p → used ≡ u → marks ≡ replicate used 0
+    → take at before ++ (marks ++ drop (at + used - at) (drop at before)) ≡ put p (replicate u 0) before
+cleared_at at used p u before marks e f q =
+    returned before marks at used (ap length q ∙ length-replicate used 0)
+    ∙ ap (λ (v : List ℕ). put at v before) q
+    ∙ ap₂ (λ (i n : ℕ). put i (replicate n 0) before) e f
 
 -- what test 4 tells of scratch
 pub buffers-memory : (d : Document) (mem scratch : ℕ) → buffers_ok d mem scratch ≡ true → memory_ok d mem ≡ true

@@ -1,18 +1,10 @@
 -- Bools that say the same, tests one after another, and cleared words.
 -- Assumes nothing.
 use mathlib.Core.Path.{◌≡◌, refl, sym, ap, ◌∙◌}
-use mathlib.Core.Bool.{Bool, true, false, not, ◌&&◌, false≢true, true≢false}
+use mathlib.Core.Bool.{Bool, true, false, ◌&&◌, false≢true}
 use mathlib.Core.List.{List}
 use Prim.Native.Nat.{ℕ}
 use lib.ListN.{length, replicate, length-replicate}
-
-pub not-false : (t : Bool) → not t ≡ false → t ≡ true
-not-false true h = refl
-not-false false h = absurd (true≢false h)
-
-pub not-true : (t : Bool) → not t ≡ true → t ≡ false
-not-true true h = absurd (false≢true h)
-not-true false h = refl
 
 -- cleared words, as long as they are
 pub cleared : (m m' : List ℕ) → m' ≡ replicate (length m) 0 → m' ≡ replicate (length m') 0
@@ -30,19 +22,19 @@ both_ways false false f g = refl
 -- ---- tests one after another: a test that failed ends them, the last decides
 
 module _ (a b t r : Bool) (e : t ≡ a) where
-  pub ended : not t ≡ true → false ≡ (a && b)
-  ended q = sym (ap (λ (x : Bool). x && b) (sym e ∙ not-true t q))
+  pub ended : t ≡ false → false ≡ (a && b)
+  ended q = sym (ap (λ (x : Bool). x && b) (sym e ∙ q))
 
-  pub decided : not t ≡ false → r ≡ b → r ≡ (a && b)
-  decided q f = f ∙ sym (ap (λ (x : Bool). x && b) (sym e ∙ not-false t q))
+  pub decided : t ≡ true → r ≡ b → r ≡ (a && b)
+  decided q f = f ∙ sym (ap (λ (x : Bool). x && b) (sym e ∙ q))
 
 -- and where there are three
-module _ (a b c t u r : Bool) (e : t ≡ a) (q : not t ≡ false) (f : u ≡ b) where
-  pub ended-second : not u ≡ true → false ≡ (a && b && c)
+module _ (a b c t u r : Bool) (e : t ≡ a) (q : t ≡ true) (f : u ≡ b) where
+  pub ended-second : u ≡ false → false ≡ (a && b && c)
   ended-second p = ended (a && b) c u true (decided a b t u e q f) p
 
-  pub decided-third : not u ≡ false → r ≡ c → r ≡ (a && b && c)
+  pub decided-third : u ≡ true → r ≡ c → r ≡ (a && b && c)
   decided-third p g = decided (a && b) c u r (decided a b t u e q f) p g
 
-pub ended-first : (a b c t : Bool) → t ≡ a → not t ≡ true → false ≡ (a && b && c)
+pub ended-first : (a b c t : Bool) → t ≡ a → t ≡ false → false ≡ (a && b && c)
 ended-first a b c t e q = ap (λ (x : Bool). x && c) (ended a b t true e q)

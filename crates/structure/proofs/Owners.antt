@@ -1,8 +1,8 @@
 -- Rule 3: the parent that is read of a slot is tested as the document's.
 -- Assumes nothing.
+use Rattle.std.specs.Prelude.{Option, None, Some}
 use mathlib.Core.Path.{◌≡◌, sym, ap, ◌∙◌}
 use mathlib.Core.Bool.{Bool, true, false, not, ◌&&◌}
-use mathlib.Core.Option.{some}
 use mathlib.Core.List.{List, []}
 use Prim.Native.Nat.{ℕ, ◌%◌}
 use lib.Dec.{eqb, leb}
@@ -10,8 +10,6 @@ use borrow.Author.Tests.{eq-eqb, ne_eqb}
 use Rattle.words.specs.Lists.{all_below}
 use Rattle.records.specs.Handles.{word_of}
 use Rattle.records.specs.declared.NodeId.{NodeId}
-use Rattle.records.specs.declared.Parent.{Parent}
-use Rattle.records.specs.declared.Parent.TheVariants.{None, Of}
 use Rattle.model.specs.Doc.{Doc, live_slot, resolves, kind_in, kind_at, parent_in}
 use Rattle.model.specs.RulesTest.{all_live, parent_holds, parents_hold}
 use Rattle.layout.specs.declared.Document.{Document}
@@ -54,7 +52,7 @@ module _ (D : Doc) (handle kind : ℕ) (t : Bool) (e : t ≡ resolves D handle) 
   pub owner-stale : t ≡ false → false ≡ (resolves D handle && owns_number (kind_number (kind_at D handle)) kind)
   owner-stale n = ap (λ (u : Bool). u && owns_number (kind_number (kind_at D handle)) kind) (sym n ∙ e)
 
-module _ (D : Doc) (i kind : ℕ) (k : kind ≡ kind_number (kind_in D i)) (p : Parent) (f : handle_of p ≡ parent_in D i) where
+module _ (D : Doc) (i kind : ℕ) (k : kind ≡ kind_number (kind_in D i)) (p : Option NodeId) (f : handle_of p ≡ parent_in D i) where
   pub parent-none : p ≡ None → (r : Bool) → r ≡ child_number kind → r ≡ parent_holds D i (parent_in D i)
   parent-none q r e =
       e
@@ -62,12 +60,12 @@ module _ (D : Doc) (i kind : ℕ) (k : kind ≡ kind_number (kind_in D i)) (p : 
       ∙ child-kind (kind_in D i)
       ∙ ap (parent_holds D i) (sym (ap handle_of q) ∙ f)
 
-  pub parent-some : (id : NodeId) → p ≡ Of id → (handle : ℕ) (r : Bool) → handle ≡ word_of id
+  pub parent-some : (id : NodeId) → p ≡ Some id → (handle : ℕ) (r : Bool) → handle ≡ word_of id
       → r ≡ (resolves D handle && owns_number (kind_number (kind_at D handle)) kind) → r ≡ parent_holds D i (parent_in D i)
   parent-some id q handle r w e =
       e
       ∙ ap (λ (t : Bool). resolves D handle && t) (ap (owns_number (kind_number (kind_at D handle))) k ∙ owns-kind (kind_at D handle) (kind_in D i))
-      ∙ ap (λ (h : ℕ). parent_holds D i (some h)) w
+      ∙ ap (λ (h : ℕ). parent_holds D i (Some h)) w
       ∙ ap (parent_holds D i) (sym (ap handle_of q) ∙ f)
 
 -- ---- a slot

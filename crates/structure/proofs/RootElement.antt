@@ -1,17 +1,16 @@
 -- Rule 7: the elements that are counted are those of the Root's list of children.
 -- Assumes nothing.
-use mathlib.Core.Path.{◌≡◌, sym, ap, ap₂, ◌∙◌}
+use Rattle.std.specs.Prelude.{None}
+use mathlib.Core.Path.{◌≡◌, sym, ap, ◌∙◌}
 use mathlib.Core.Bool.{Bool, true, false, cond}
-use mathlib.Core.Option.{none}
 use mathlib.Core.List.{List, []}
 use Prim.Native.Nat.{ℕ, ◌+◌, ◌%◌, ◌≤◌, ◌<◌}
-use native.Mathlib.Numerals.{add-one}
 use native.Mathlib.Omega.{arith}
-use lib.ListN.{length, get_or}
+use lib.ListN.{length, get_or, take}
+use lib.Seq.{length-take-le}
+use Rattle.std.proofs.lemmas.List.{take_more}
 use lib.Dec.{eqb, leb}
-use Rattle.words.specs.Parts.{part}
 use Rattle.words.specs.Lists.{all, count_of}
-use Rattle.words.proofs.Parts.{length_part, get_or-part, part_none, part-snoc}
 use Rattle.words.proofs.Lists.{count_of-le, all_below-at, count_of-snoc}
 use Rattle.words.proofs.Tests.{and_left, and_right, and_both}
 use Rattle.blocks.specs.Arena.{list_of}
@@ -40,41 +39,32 @@ unfolding element_test
 element-shown D handle kind e = ap (λ (k : ℕ). eqb k 1) e ∙ element-kind (kind_at D handle)
 
 -- an entry of a list that rule 4 holds of resolves
-pub entry-resolves : (D : Doc) (ids : List ℕ) (start len k word : ℕ) → all (entry_holds D children 0) (part start len ids) ≡ true → start + len ≤ length ids → k < len
-    → word ≡ get_or ids (start + k) 0 → resolves D word ≡ true
-entry-resolves D ids start len k word h f b e =
-    let n = length_part ids start len f in
-    let q : entry_holds D children 0 (get_or (part start len ids) k 0) ≡ true =
-    all_below-at (λ i. entry_holds D children 0 (get_or (part start len ids) i 0)) (length (part start len ids)) (all_below-all (entry_holds D children 0) (part start len ids) 0 ∙ h) k (omega arith) in
-    let w : get_or (part start len ids) k 0 ≡ word = get_or-part ids start len k 0 b ∙ sym e in
-    let r : entry_holds D children 0 word ≡ true = rw w at q in
+pub entry-resolves : (D : Doc) (entries : List ℕ) (k : ℕ) → all (entry_holds D children 0) entries ≡ true → k < length entries → resolves D (get_or entries k 0) ≡ true
+entry-resolves D entries k h b =
+    let r : entry_holds D children 0 (get_or entries k 0) ≡ true =
+    all_below-at (λ i. entry_holds D children 0 (get_or entries i 0)) (length entries) (all_below-all (entry_holds D children 0) entries 0 ∙ h) k b in
     search (and_left)
 
 -- ---- counting
 
-module _ (p : ℕ → Bool) (ids : List ℕ) (start : ℕ) where
-  pub counted_none : 0 ≡ count_of p (part start 0 ids)
-  counted_none = sym (ap (count_of p) (part_none ids start))
+module _ (p : ℕ → Bool) (entries : List ℕ) (k count : ℕ) (h : k < length entries) (q : count ≡ count_of p (take k entries)) where
+  one-more : count_of p (take (k + 1) entries) ≡ count + cond (p (get_or entries k 0)) 1 0
+  one-more =
+      ap (count_of p) (take_more entries k 0 h)
+      ∙ count_of-snoc p (take k entries) (get_or entries k 0)
+      ∙ ap (λ (c : ℕ). c + cond (p (get_or entries k 0)) 1 0) (sym q)
 
-  module _ (k count word : ℕ) (h : start + k < length ids) (e : word ≡ get_or ids (start + k) 0) (q : count ≡ count_of p (part start k ids)) where
-    one-more : count_of p (part start (k + 1) ids) ≡ count + cond (p word) 1 0
-    one-more =
-        ap (λ (n : ℕ). count_of p (part start n ids)) (add-one k)
-        ∙ ap (count_of p) (part-snoc ids start k 0 h)
-        ∙ count_of-snoc p (part start k ids) (get_or ids (start + k) 0)
-        ∙ ap₂ (λ (c x : ℕ). c + cond (p x) 1 0) (sym q) (sym e)
+  module _ (t : Bool) (g : t ≡ p (get_or entries k 0)) (count' : ℕ) where
+    pub counted-yes : t ≡ true → count' ≡ count + 1 → count' ≡ count_of p (take (k + 1) entries)
+    counted-yes y f = f ∙ sym (one-more ∙ ap (λ (x : Bool). count + cond x 1 0) (sym g ∙ y))
 
-    module _ (t : Bool) (g : t ≡ p word) (count' : ℕ) where
-      pub counted-yes : t ≡ true → count' ≡ count + 1 → count' ≡ count_of p (part start (k + 1) ids)
-      counted-yes y f = f ∙ sym (one-more ∙ ap (λ (x : Bool). count + cond x 1 0) (sym g ∙ y))
+    pub counted-no : t ≡ false → count' ≡ count → count' ≡ count_of p (take (k + 1) entries)
+    counted-no y f =
+        let z = one-more ∙ ap (λ (x : Bool). count + cond x 1 0) (sym g ∙ y) in
+        omega arith
 
-      pub counted-no : t ≡ false → count' ≡ count → count' ≡ count_of p (part start (k + 1) ids)
-      counted-no y f =
-          let z = one-more ∙ ap (λ (x : Bool). count + cond x 1 0) (sym g ∙ y) in
-          omega arith
-
-  pub counted-fits : (k count : ℕ) → start + k ≤ length ids → count ≡ count_of p (part start k ids) → count ≤ k
-  counted-fits k count h q = omega (arith, count_of-le p (part start k ids), length_part ids start k h)
+  pub counted-fits : count ≤ k
+  counted-fits = omega (arith, count_of-le p (take k entries), length-take-le k entries (omega arith))
 
 -- ---- the Root's list
 
@@ -85,7 +75,7 @@ module _ (d : Document) (mem : List ℕ) (fields : counts_and_fields_hold (decod
   pub root-live : live_slot (decode_nodes d mem) 0 ≡ true
   root-live =
       let f = fields-of-test nodes fields in
-      and_both (even (generation_at nodes 0)) (is_some (get_or nodes.kinds 0 none)) (rw f.root_generation) (rw f.root_kind)
+      and_both (even (generation_at nodes 0)) (is_some (get_or nodes.kinds 0 None)) (rw f.root_generation) (rw f.root_kind)
 
   module _ (r : Range) (e : block_of r ≡ range_in (decode_nodes d mem) children 0) where
     pub root-inside : memory_ok d (length mem) ≡ true → blocks_hold (decode_nodes d mem) ≡ true → r.start + r.len ≤ d.limits.children

@@ -1,9 +1,9 @@
 -- The texts and the names that are shown are never more than the limits say where their lengths add up, so rule 1 is decided without them.
 -- Assumes nothing.
+use Rattle.std.specs.Prelude.{Option, Some}
 use mathlib.Core.Path.{◌≡◌, refl, ap, ◌∙◌}
 use mathlib.Core.Logic.{◌⊎◌, inl, inr}
 use mathlib.Core.Bool.{Bool, true, false, ◌&&◌}
-use mathlib.Core.Option.{Option, some}
 use mathlib.Core.List.{List}
 use Prim.Native.Nat.{ℕ, zero, suc, ◌+◌, ◌≤◌, ◌<◌, min}
 use native.Mathlib.Omega.{arith}
@@ -115,7 +115,7 @@ module _ (limits : NameLimits) (counts : NameCounts) (w : List ℕ) where
       second : k + k + 1 ≡ suc (k + k)
       second = omega arith
 
-      both : length (entry_bytes (some (name (part_shown limits counts k 0 w) (part_shown limits counts k 1 w))))
+      both : length (entry_bytes (Some (name (part_shown limits counts k 0 w) (part_shown limits counts k 1 w))))
           ≡ length (piece_shown (bytes_at limits) count (shown_bytes limits counts) (k + k) w) + length (piece_shown (bytes_at limits) count (shown_bytes limits counts) (suc (k + k)) w)
       both = length-append (part_shown limits counts k 0 w) (part_shown limits counts k 1 w) ∙ rw (first, second)
 

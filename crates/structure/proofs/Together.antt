@@ -1,8 +1,8 @@
 -- The rules together: the order in which they are tested, and that all but rule 8 read neither texts nor names where the lengths add up.
 -- Assumes nothing.
+use Rattle.std.specs.Prelude.{Option, None, Some}
 use mathlib.Core.Path.{◌≡◌, refl, sym, ap, ap₂, ◌∙◌}
-use mathlib.Core.Bool.{Bool, true, false, not, ◌&&◌, and-false}
-use mathlib.Core.Option.{Option, none, some}
+use mathlib.Core.Bool.{Bool, true, false, ◌&&◌, and-false}
 use mathlib.Core.List.{List}
 use Prim.Native.Nat.{ℕ, zero, suc, ◌≤◌}
 use native.Mathlib.Omega.{arith}
@@ -19,7 +19,7 @@ use Rattle.layout.specs.Layout.{limits_of, scratch_words, memory_ok, buffers_ok}
 use Rattle.memory.specs.Decode.{slots_made, lengths_add, decode}
 use Rattle.entries.specs.Nodes.{decode_nodes}
 use Rattle.structure.specs.Tests.{only_root, fields_fit, each_holds}
-use Rattle.structure.proofs.Lists.{not-false, both_ways, ended-first, ended-second, decided-third}
+use Rattle.structure.proofs.Lists.{both_ways, ended-first, ended-second, decided-third}
 use Rattle.structure.proofs.CountsAndFields.{fields-decide}
 use Rattle.structure.proofs.TextsShown.{fields-decoded}
 
@@ -83,8 +83,8 @@ module _ (d : Document) (mem : List ℕ) (ok : memory_ok d (length mem) ≡ true
   free-decoded = refl
 
   parent-decoded : (i : ℕ) (o : Option ℕ) → parent_holds (decode_nodes d mem) i o ≡ parent_holds (decode d mem) i o
-  parent-decoded i none = refl
-  parent-decoded i (some p) = refl
+  parent-decoded i None = refl
+  parent-decoded i (Some p) = refl
 
   parents-decoded : parents_hold (decode_nodes d mem) ≡ parents_hold (decode d mem)
   unfolding parents_hold all_live
@@ -107,8 +107,8 @@ module _ (d : Document) (mem : List ℕ) (ok : memory_ok d (length mem) ≡ true
     where
       go : (o : Option ℕ) → ((j : ℕ) → ends_within f (decode_nodes d mem) j ≡ ends_within f (decode d mem) j)
           → all_option (λ p. ends_within f (decode_nodes d mem) (handle_index p)) o ≡ all_option (λ p. ends_within f (decode d mem) (handle_index p)) o
-      go none ih = refl
-      go (some p) ih = ih (handle_index p)
+      go None ih = refl
+      go (Some p) ih = ih (handle_index p)
 
   ends-decoded : parents_end_holds (decode_nodes d mem) ≡ parents_end_holds (decode d mem)
   unfolding parents_end_holds all_live
@@ -164,24 +164,24 @@ module _ (d : Document) (mem : List ℕ) (ok : memory_ok d (length mem) ≡ true
           ∙ sym (ap (λ (t : Bool). others && t) (no-lengths h) ∙ and-false others)
 
   module _ (slots : Bool) (e : slots ≡ (fields_fit d mem && free_list_holds (decode_nodes d mem))) where
-    pub slots-broken : not slots ≡ true → false ≡ rules_hold (decode d mem)
+    pub slots-broken : slots ≡ false → false ≡ rules_hold (decode d mem)
     slots-broken q = ended-first (fields_fit d mem && free_list_holds (decode_nodes d mem)) (each_holds d mem) links slots e q ∙ rules-are
 
-    module _ (q : not slots ≡ false) where
+    module _ (q : slots ≡ true) where
       pub fields-there : fields_fit d mem ≡ true
-      fields-there = and_left (fields_fit d mem) (free_list_holds (decode_nodes d mem)) (sym e ∙ not-false slots q)
+      fields-there = and_left (fields_fit d mem) (free_list_holds (decode_nodes d mem)) (sym e ∙ q)
 
       module _ (turns : Bool) (f : turns ≡ each_holds d mem) where
-        pub each-broken : not turns ≡ true → false ≡ rules_hold (decode d mem)
+        pub each-broken : turns ≡ false → false ≡ rules_hold (decode d mem)
         each-broken p = ended-second (fields_fit d mem && free_list_holds (decode_nodes d mem)) (each_holds d mem) links slots turns true e q f p ∙ rules-are
 
-        pub links-decide : not turns ≡ false → (r : Bool) → r ≡ (entries_hold (decode_nodes d mem) && one_root_element_holds (decode_nodes d mem) && parents_end_holds (decode_nodes d mem)) → r ≡ rules_hold (decode d mem)
+        pub links-decide : turns ≡ true → (r : Bool) → r ≡ (entries_hold (decode_nodes d mem) && one_root_element_holds (decode_nodes d mem) && parents_end_holds (decode_nodes d mem)) → r ≡ rules_hold (decode d mem)
         links-decide p r g = decided-third (fields_fit d mem && free_list_holds (decode_nodes d mem)) (each_holds d mem) links slots turns r e q f p g ∙ rules-are
 
         -- what the links are followed by
-        module _ (p : not turns ≡ false) where
+        module _ (p : turns ≡ true) where
           held : each_holds d mem ≡ true
-          held = sym f ∙ not-false turns p
+          held = sym f ∙ p
 
           pub parents-there : parents_hold (decode_nodes d mem) ≡ true
           parents-there = each-parents d mem held

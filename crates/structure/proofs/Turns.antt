@@ -1,7 +1,7 @@
 -- The pass over the slots: the turn of one, and what the turns so far have found.
 -- Assumes nothing.
 use mathlib.Core.Path.{◌≡◌, refl, sym, ap, ap₂, ◌∙◌, subst}
-use mathlib.Core.Bool.{Bool, true, false, not, ◌&&◌, false≢true}
+use mathlib.Core.Bool.{Bool, true, false, ◌&&◌, false≢true}
 use mathlib.Core.List.{List, [], ◌++◌}
 use Prim.Native.Nat.{ℕ, ◌+◌, ◌-◌, ◌≤◌, ◌<◌}
 use native.Mathlib.Numerals.{add-one}
@@ -35,7 +35,7 @@ use Rattle.entries.proofs.Texts.{texts-are}
 use Rattle.structure.specs.Scratch.{marks_at, text_marks_at}
 use Rattle.structure.specs.Tests.{root_test, parent_test, only_root, claims_met, each_holds}
 use Rattle.structure.specs.Turns.{Claim, owner_holds, arena_marks, text_marks, Cleared, slot_holds, claim_met, Claims, Fields, Turn, slots_hold, Each}
-use Rattle.structure.proofs.Lists.{not-true, not-false, ended, ended-first, ended-second, decided, decided-third}
+use Rattle.structure.proofs.Lists.{ended, ended-first, ended-second, decided, decided-third}
 use Rattle.structure.proofs.Owners.{all-parents}
 use Rattle.structure.proofs.CountsAndFields.{all-roots}
 use Rattle.structure.proofs.Claimed.{empty-claimable, empty-claimed, marks-inside, marks-before-texts, text-marks-inside, blocks-decided}
@@ -188,14 +188,14 @@ module _ (d : Document) (mem : List ℕ) (s : ℕ) where
   all-which p = refl
 
   module _ (before one : List ℕ) (r₁ : Bool) (c₁ : Claim (arena_in d children mem) (block_in (decode_nodes d mem) children s) (marks_at (limits_of d.limits) children) before one r₁) where
-    pub children-refused : not r₁ ≡ true → Claims d mem s before one false
+    pub children-refused : r₁ ≡ false → Claims d mem s before one false
     children-refused q = record {
       answer = ended-first _ _ _ r₁ (claim-met children before one r₁ c₁) q ∙ all-which (claim_met d mem s before);
       arenas = λ z. absurd (false≢true z);
       texts = λ z. absurd (false≢true z);
     }
 
-    module _ (q₁ : not r₁ ≡ false) (long : scratch_words (limits_of d.limits) ≤ length before) (l₁ : length one ≡ length before) (two : List ℕ) (r₂ : Bool)
+    module _ (q₁ : r₁ ≡ true) (long : scratch_words (limits_of d.limits) ≤ length before) (l₁ : length one ≡ length before) (two : List ℕ) (r₂ : Bool)
         (c₂ : Claim (arena_in d attributes mem) (block_in (decode_nodes d mem) attributes s) (marks_at (limits_of d.limits) attributes) one two r₂) where
       one-put : one ≡ put (marks_at (limits_of d.limits) children) (claimed_marks before children) before
       one-put = claim-put children before one r₁ c₁
@@ -206,14 +206,14 @@ module _ (d : Document) (mem : List ℕ) (s : ℕ) where
       attributes-met : r₂ ≡ claim_met d mem s before attributes
       attributes-met = claim-met attributes one two r₂ c₂ ∙ met-same attributes one before attributes-kept
 
-      pub attributes-refused : not r₂ ≡ true → Claims d mem s before two false
+      pub attributes-refused : r₂ ≡ false → Claims d mem s before two false
       attributes-refused q = record {
         answer = ended-second _ _ _ r₁ r₂ true (claim-met children before one r₁ c₁) q₁ attributes-met q ∙ all-which (claim_met d mem s before);
         arenas = λ z. absurd (false≢true z);
         texts = λ z. absurd (false≢true z);
       }
 
-      module _ (q₂ : not r₂ ≡ false) (l₂ : length two ≡ length one) (after : List ℕ) (r₃ : Bool)
+      module _ (q₂ : r₂ ≡ true) (l₂ : length two ≡ length one) (after : List ℕ) (r₃ : Bool)
           (c₃ : Claim (arena_in d namespaces mem) (block_in (decode_nodes d mem) namespaces s) (marks_at (limits_of d.limits) namespaces) two after r₃) where
         two-put : two ≡ put (marks_at (limits_of d.limits) attributes) (claimed_marks before attributes) one
         two-put = put-same-marks attributes one before two attributes-kept (claim-put attributes one two r₂ c₂)
@@ -244,15 +244,15 @@ module _ (d : Document) (mem : List ℕ) (s : ℕ) where
   all-tests claims = refl
 
   module _ (before : List ℕ) (t : Bool) (e : t ≡ owner_holds (decode_nodes d mem) s) where
-    pub owner-refused : not t ≡ true → Turn d mem s before before false
+    pub owner-refused : t ≡ false → Turn d mem s before before false
     owner-refused q = record {
       answer = ended-first _ fields _ t e q ∙ all-tests (all_which (claim_met d mem s before));
       arenas = λ z. absurd (false≢true z);
       texts = λ z. absurd (false≢true z);
     }
 
-    module _ (q : not t ≡ false) (one : List ℕ) (u : Bool) (f : Fields d mem s before one u) where
-      pub fields-refused : not u ≡ true → Turn d mem s before one false
+    module _ (q : t ≡ true) (one : List ℕ) (u : Bool) (f : Fields d mem s before one u) where
+      pub fields-refused : u ≡ false → Turn d mem s before one false
       fields-refused p = record {
         answer = ended-second _ fields _ t u true e q f.pass.answer p ∙ all-tests (all_which (claim_met d mem s before));
         arenas = λ z. absurd (false≢true z);
@@ -265,7 +265,7 @@ module _ (d : Document) (mem : List ℕ) (s : ℕ) where
           ap₂ ◌&&◌ (ap₂ ◌&&◌ (met-same children one before (f.arenas children)) (met-same attributes one before (f.arenas attributes)))
           (met-same namespaces one before (f.arenas namespaces))
 
-      pub slot-claimed : not u ≡ false → (after : List ℕ) (r : Bool) → Claims d mem s one after r → Turn d mem s before after r
+      pub slot-claimed : u ≡ true → (after : List ℕ) (r : Bool) → Claims d mem s one after r → Turn d mem s before after r
       slot-claimed p after r c = record {
         answer =
             decided-third _ fields _ t u r e q f.pass.answer p (c.answer ∙ claims-same)
@@ -273,7 +273,7 @@ module _ (d : Document) (mem : List ℕ) (s : ℕ) where
         arenas = λ z w. c.arenas z w ∙ ap (λ (m : List ℕ). block_claimed (arena_in d w mem) m (block_in D w s)) (f.arenas w);
         texts = λ z.
             subst (λ (m : List ℕ). Adds d.counts.texts (held_in (decode_nodes d mem) s) (text_marks d before) m) (sym (c.texts z))
-            (f.pass.counts (not-false u p));
+            (f.pass.counts p);
       }
 
   -- a free slot has no owner, no fields and no block
@@ -402,16 +402,16 @@ module _ (d : Document) (mem : List ℕ) where
         ∙ all_below-at (λ (k : ℕ). block_claimable (arena_in d w mem) (marks_after (arena_in d w mem) (block_in doc w) k) (block_in doc w k)) (slots_made d)
         (all-claims w ∙ claims-held e w) s b))
 
-    pub sofar-not : not r ≡ true → Each d mem after false
+    pub sofar-not : r ≡ false → Each d mem after false
     sofar-not q = record { answer = go (slots_hold d mem) refl; counted = λ z. absurd (false≢true z) }
       where
         go : (t : Bool) → slots_hold d mem ≡ t → false ≡ slots_hold d mem
-        go true e = absurd (false≢true (sym (not-true r q) ∙ turn_holds e))
+        go true e = absurd (false≢true (sym q ∙ turn_holds e))
         go false e = sym e
 
-    module _ (q : not r ≡ false) where
+    module _ (q : r ≡ true) where
       passed : (slot_holds d mem s && all_which (claim_met d mem s before)) ≡ true
-      passed = sym c.answer ∙ not-false r q
+      passed = sym c.answer ∙ q
 
       pub sofar-next : Sofar d mem after (s + 1)
       unfolding marks_after all_claimable
@@ -419,7 +419,7 @@ module _ (d : Document) (mem : List ℕ) where
         at = omega (arith, b);
         tests = all_below-next (slot_holds d mem) s h.tests (and_left (slot_holds d mem s) (all_which (claim_met d mem s before)) passed);
         arenas = λ w.
-            c.arenas (not-false r q) w
+            c.arenas q w
             ∙ ap (λ (m : List ℕ). block_claimed (arena_in d w mem) m (block_in doc w s)) (h.arenas w)
             ∙ sym (ap (marks_after (arena_in d w mem) (block_in doc w)) (add-one s));
         claims = λ w.
@@ -427,7 +427,7 @@ module _ (d : Document) (mem : List ℕ) where
             (sym (met-here w) ∙ which-at (claim_met d mem s before) (and_right (slot_holds d mem s) (all_which (claim_met d mem s before)) passed) w);
         counted =
             subst (λ (l : List ℕ). Counted d.counts.texts l (text_marks d after)) (sym (gathered_next (held_in doc) s))
-            ((c.texts (not-false r q)).adds (gathered (held_in doc) s) h.counted);
+            ((c.texts q).adds (gathered (held_in doc) s) h.counted);
       }
 
   pub sofar-all : (s : ℕ) (scratch : List ℕ) → Sofar d mem scratch s → (count : ℕ) → count ≡ slots_made d → count ≤ s → Each d mem scratch true
@@ -468,11 +468,11 @@ module _ (d : Document) (mem : List ℕ) where
         regrouped false f b t = refl
 
     module _ (after : List ℕ) (t : Bool) (e : Each d mem after t) where
-      pub each-refused : not t ≡ true → false ≡ each_holds d mem
+      pub each-refused : t ≡ false → false ≡ each_holds d mem
       each-refused q = ended (slots_hold d mem) (pool_holds d mem) t true e.answer q ∙ each-are
 
-      pub pool-decides : not t ≡ false → (r : Bool) → r ≡ pool_holds d mem → r ≡ each_holds d mem
+      pub pool-decides : t ≡ true → (r : Bool) → r ≡ pool_holds d mem → r ≡ each_holds d mem
       pool-decides q r f = decided (slots_hold d mem) (pool_holds d mem) t r e.answer q f ∙ each-are
 
-      pub each-counted : not t ≡ false → Counted d.counts.texts (gathered (held_in (decode_nodes d mem)) (slots_made d)) (text_marks d after)
-      each-counted q = e.counted (not-false t q)
+      pub each-counted : t ≡ true → Counted d.counts.texts (gathered (held_in (decode_nodes d mem)) (slots_made d)) (text_marks d after)
+      each-counted q = e.counted q

@@ -1,6 +1,5 @@
 -- What is tested of one slot, one entry or one arena, where a rule's test names a test of all of them.
-use Rattle.std.specs.Prelude.{Bool, not, ◌&&◌, ◌||◌, cond, List, ℕ, ◌+◌, length, get_or, eqb, leb}
-use Rattle.std.proofs.Math.Option.{none}
+use Rattle.std.specs.Prelude.{Bool, not, ◌&&◌, ◌||◌, cond, List, ℕ, length, get_or, eqb, leb, None}
 use Rattle.words.specs.Lists.{all_below}
 use Rattle.blocks.specs.Claims.{all_claimable}
 use Rattle.model.specs.Kinds.{Which, is_element, is_root}
@@ -14,10 +13,6 @@ use Rattle.entries.specs.Nodes.{decode_nodes, words_hold}
 
 -- ---- rule 1
 
--- the word at an index counted from `at`
-unfoldable pub fits_at : List ℕ → ℕ → ℕ → Bool
-fits_at mem at i = fits_field (get_or mem (at + i) 0)
-
 -- the capacities of an arena, and of all three
 unfoldable pub capacities_fit : Doc → Which → Bool
 capacities_fit D w = all_below (λ i. fits_field (get_or (D.arenas w).caps i 0)) (D.arenas w).used
@@ -27,7 +22,7 @@ arenas_fit D = all_which (capacities_fit D)
 
 -- "Slot 0 is .. Root: generation 0, no parent"
 unfoldable pub root_stands : Doc → Bool
-root_stands D = eqb (generation_at D 0) 0 && any_option is_root (get_or D.kinds 0 none) && is_none (parent_in D 0)
+root_stands D = eqb (generation_at D 0) 0 && any_option is_root (get_or D.kinds 0 None) && is_none (parent_in D 0)
 
 -- "the only live Root"
 unfoldable pub root_test : Doc → ℕ → Bool

@@ -34,7 +34,7 @@ fn check_listed(d: Document, mem: &[u64], marks: &mut [u64]) -> bool
     requires d_in_bounds { slots_made d ≤ length marks.old }
     ensures { result ≡ entries_hold (decode_nodes d mem.now) }
 {
-    words::clear(marks);
+    marks.fill(0);
     check_entries(d, mem, marks)
 }
 
@@ -44,7 +44,7 @@ fn check_ends(d: Document, mem: &[u64], marks: &mut [u64]) -> bool
     requires d_in_bounds { slots_made d ≤ length marks.old }
     ensures { result ≡ parents_end_holds (decode_nodes d mem.now) }
 {
-    words::clear(marks);
+    marks.fill(0);
     check_paths(d, mem, marks)
 }
 
@@ -68,10 +68,7 @@ fn check_passes(d: Document, mem: &[u64], scratch: &mut [u64]) -> bool
     requires { (buffers_ok d (length mem.now) (length scratch.old) ≡ true) × (fields_fit d mem.now ≡ true) }
     ensures { result ≡ each_holds d mem.now }
 {
-    if !check_each(d, mem, scratch) {
-        return false;
-    }
-    check_pool(d, mem, scratch)
+    check_each(d, mem, scratch) && check_pool(d, mem, scratch)
 }
 
 // All eight rules.
@@ -82,10 +79,7 @@ fn check_rules(d: Document, mem: &[u64], scratch: &mut [u64]) -> bool
     if !check_slots(d, mem, scratch) {
         return false;
     }
-    if !check_passes(d, mem, scratch) {
-        return false;
-    }
-    check_links(d, mem, scratch)
+    check_passes(d, mem, scratch) && check_links(d, mem, scratch)
 }
 
 // Whether the structure rules hold: Damaged is answered exactly where they do not. Scratch may hold anything, and is all zero after.
@@ -95,6 +89,6 @@ pub fn check_structure(d: Document, mem: &[u64], scratch: &mut [u64]) -> bool
     ensures scratch_after { scratch.new ≡ replicate (length scratch.old) 0 }
 {
     let holds = check_rules(d, mem, scratch);
-    words::clear(scratch);
+    scratch.fill(0);
     holds
 }

@@ -14,27 +14,21 @@ use crate::pool::{clear_texts, count_fields};
 use entries::nodes::{is_live, kind_of};
 use layout::{Arena, Document};
 use memory::read::made;
+use records::kind::ROOT;
 
 // A live Root stands in slot 0.
 fn is_only_root(d: Document, mem: &[u64], s: usize) -> bool
     requires { (memory_ok d (length mem.now) ≡ true) × (live_slot (decode_nodes d mem.now) s ≡ true) }
     ensures { result ≡ root_test (decode_nodes d mem.now) s }
 {
-    if s == 0 {
-        return true;
-    }
-    kind_of(d, mem, s) != 0
+    s == 0 || kind_of(d, mem, s) != ROOT
 }
 
 fn owner_holds(d: Document, mem: &[u64], s: usize) -> bool
     requires { (memory_ok d (length mem.now) ≡ true) × (words_hold d mem.now ≡ true) × (live_slot (decode_nodes d mem.now) s ≡ true) }
     ensures { result ≡ owner_holds (decode_nodes d mem.now) s }
 {
-    if is_only_root(d, mem, s) {
-        parent_fits(d, mem, s)
-    } else {
-        false
-    }
+    is_only_root(d, mem, s) && parent_fits(d, mem, s)
 }
 
 // The claims of a live slot, in each arena. The arenas are named where they are used, so that nothing is looked up by a name.
@@ -45,10 +39,7 @@ fn claim_lists(d: Document, mem: &[u64], s: usize, scratch: &mut [u64]) -> bool
     if !claim(d, mem, Arena::Children, s, scratch) {
         return false;
     }
-    if !claim(d, mem, Arena::Attributes, s, scratch) {
-        return false;
-    }
-    claim(d, mem, Arena::Namespaces, s, scratch)
+    claim(d, mem, Arena::Attributes, s, scratch) && claim(d, mem, Arena::Namespaces, s, scratch)
 }
 
 fn pass_live(d: Document, mem: &[u64], s: usize, scratch: &mut [u64]) -> bool
@@ -58,10 +49,7 @@ fn pass_live(d: Document, mem: &[u64], s: usize, scratch: &mut [u64]) -> bool
     if !owner_holds(d, mem, s) {
         return false;
     }
-    if !count_fields(d, mem, s, scratch) {
-        return false;
-    }
-    claim_lists(d, mem, s, scratch)
+    count_fields(d, mem, s, scratch) && claim_lists(d, mem, s, scratch)
 }
 
 fn pass_slot(d: Document, mem: &[u64], s: usize, scratch: &mut [u64]) -> bool
@@ -80,13 +68,10 @@ fn pass_slots(d: Document, mem: &[u64], scratch: &mut [u64]) -> bool
     requires { (buffers_ok d (length mem.now) (length scratch.old) ≡ true) × (d.counts.texts ≤ d.limits.texts) × (words_hold d mem.now ≡ true) × Cleared d scratch.old }
     ensures { Each d mem.now scratch.new result }
 {
-    let count = made(d);
-    let mut s = 0;
-    while s < count {
+    for s in 0..made(d) {
         if !pass_slot(d, mem, s, scratch) {
             return false;
         }
-        s += 1;
     }
     true
 }

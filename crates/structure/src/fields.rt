@@ -8,29 +8,27 @@ ghost use Rattle.memory.specs.Decode.{counts_within, slots_part, slots_made};
 ghost use Rattle.entries.specs.Nodes.{decode_nodes, words_hold};
 ghost use Rattle.structure.specs.Tests.{capacities_fit, arenas_fit, root_stands, fields_fit};
 
-use entries::nodes::{kind_of, parent_of};
+use entries::nodes::kind_of;
 use layout::{Arena, Counts, Document, Limits, arena_at, arena_limit};
-use memory::read::{arena_used, generation, made};
-use records::Parent;
+use memory::fields::has_no_parent;
+use memory::read::{arena_used, generation, made, slots};
+use records::kind::ROOT;
 use words::NodeSlot;
 
-// A call in place of &&: no branch stands between the tests.
-fn both(a: bool, b: bool) -> bool
-    ensures { result ≡ (a && b) }
-{
-    if a { b } else { false }
-}
-
+// `&` in place of `&&`, here and below: no branch stands between the tests.
 fn counts_within(l: Limits, c: Counts) -> bool
     ensures { result ≡ counts_within (limits_of l) c }
 {
-    let slots = both(c.slots <= l.nodes, c.free <= l.nodes);
-    let children = both(slots, c.children <= l.children);
-    let attributes = both(children, c.attributes <= l.attributes);
-    let arenas = both(attributes, c.namespaces <= l.namespaces);
-    let texts = both(both(arenas, c.texts <= l.texts), c.freetexts <= l.texts);
-    let pool = both(texts, c.textbytes <= l.textbytes);
-    both(both(pool, c.names <= l.names), c.namebytes <= l.namebytes)
+    (c.slots <= l.nodes)
+        & (c.free <= l.nodes)
+        & (c.children <= l.children)
+        & (c.attributes <= l.attributes)
+        & (c.namespaces <= l.namespaces)
+        & (c.texts <= l.texts)
+        & (c.freetexts <= l.texts)
+        & (c.textbytes <= l.textbytes)
+        & (c.names <= l.names)
+        & (c.namebytes <= l.namebytes)
 }
 
 // Whether the words of the slots made are within their fields.
@@ -38,10 +36,7 @@ fn slots_fit(d: Document, mem: &[u64]) -> bool
     requires { memory_ok d (length mem.now) ≡ true }
     ensures { result ≡ words_rule d.limits.nodes (slots_part d mem.now) (slots_made d) }
 {
-    let l = d.limits;
-    let n = l.nodes;
-    let end = 15 * n;
-    slots::rule::check_words(&mem[0..end], n, made(d))
+    slots(d, mem).check_words(made(d))
 }
 
 // Whether the capacities of an arena's entries in use are within their fields: their upper halves add up to 0, so that no branch stands between the entries.
@@ -49,14 +44,11 @@ fn capacities_fit(d: Document, mem: &[u64], arena: Arena) -> bool
     requires { memory_ok d (length mem.now) ≡ true }
     ensures { result ≡ capacities_fit (decode_nodes d mem.now) (which_of arena) }
 {
-    let start = arena_at(d.limits, arena);
-    let limit = arena_limit(d.limits, arena);
-    let used = arena_used(d, arena);
+    let start = arena_at(d.limits, arena) + arena_limit(d.limits, arena);
+    let end = start + arena_used(d, arena);
     let mut upper = 0;
-    let mut i = 0;
-    while i < used {
-        upper += mem[start + limit + i] / 4294967296;
-        i += 1;
+    for &capacity in &mem[start..end] {
+        upper += capacity / 4294967296;
     }
     upper == 0
 }
@@ -65,10 +57,9 @@ fn arenas_fit(d: Document, mem: &[u64]) -> bool
     requires { memory_ok d (length mem.now) ≡ true }
     ensures { result ≡ arenas_fit (decode_nodes d mem.now) }
 {
-    let children = capacities_fit(d, mem, Arena::Children);
-    let attributes = capacities_fit(d, mem, Arena::Attributes);
-    let namespaces = capacities_fit(d, mem, Arena::Namespaces);
-    both(both(children, attributes), namespaces)
+    capacities_fit(d, mem, Arena::Children)
+        & capacities_fit(d, mem, Arena::Attributes)
+        & capacities_fit(d, mem, Arena::Namespaces)
 }
 
 // Whether slot 0, which is live, is a Root without a parent.
@@ -76,14 +67,7 @@ fn is_top(d: Document, mem: &[u64]) -> bool
     requires { (memory_ok d (length mem.now) ≡ true) × (live_slot (decode_nodes d mem.now) 0 ≡ true) }
     ensures { result ≡ (is_root (kind_in (decode_nodes d mem.now) 0) && is_none (parent_in (decode_nodes d mem.now) 0)) }
 {
-    if kind_of(d, mem, 0) != 0 {
-        return false;
-    }
-    let parent = parent_of(d, mem, 0);
-    match parent {
-        Parent::None => true,
-        Parent::Of(_) => false,
-    }
+    kind_of(d, mem, 0) == ROOT && has_no_parent(d, mem, NodeSlot(0))
 }
 
 // Whether slot 0 is a live Root of generation 0 without a parent.
@@ -94,10 +78,7 @@ fn root_stands(d: Document, mem: &[u64]) -> bool
     if made(d) == 0 {
         return false;
     }
-    if generation(d, mem, NodeSlot(0)) != 0 {
-        return false;
-    }
-    is_top(d, mem)
+    generation(d, mem, NodeSlot(0)) == 0 && is_top(d, mem)
 }
 
 // Whether rule 1 holds, but for the numbers of texts and names, and for other Roots: the pass over the slots tests those.
@@ -105,9 +86,6 @@ pub fn check_fields(d: Document, mem: &[u64]) -> bool
     requires { memory_ok d (length mem.now) ≡ true }
     ensures { result ≡ fields_fit d mem.now }
 {
-    let counts = counts_within(d.limits, d.counts);
-    if !both(counts, slots_fit(d, mem)) {
-        return false;
-    }
-    both(arenas_fit(d, mem), root_stands(d, mem))
+    (counts_within(d.limits, d.counts) & slots_fit(d, mem))
+        && (arenas_fit(d, mem) & root_stands(d, mem))
 }

@@ -6,18 +6,13 @@ ghost use Rattle.memory.specs.Decode.{slots_made};
 ghost use Rattle.entries.specs.Nodes.{decode_nodes};
 
 use layout::Document;
-use memory::read::{free, made};
+use memory::read::{free, made, slots};
 
 // Whether rule 2 holds. Marks has a word for each slot made.
 pub fn check_free_list(d: Document, mem: &[u64], marks: &mut [u64]) -> bool
     requires { (memory_ok d (length mem.now) ≡ true) × (slots_made d ≤ length marks.old) }
     ensures { result ≡ free_list_holds (decode_nodes d mem.now) }
 {
-    words::clear(marks);
-    let l = d.limits;
-    let n = l.nodes;
-    let end = 15 * n;
-    let slots = made(d);
-    let entries = free(d);
-    slots::rule::check_free(&mem[0..end], n, slots, entries, marks)
+    marks.fill(0);
+    slots(d, mem).check_free(made(d), free(d), marks)
 }

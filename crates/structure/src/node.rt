@@ -2,11 +2,13 @@
 ghost use Rattle.std.specs.Prelude.{◌≡◌};
 ghost use Rattle.structure.specs.Tests.{child_number, owns_number};
 
+use records::kind::{ATTR, ELEMENT, NAMESPACE};
+
 // All but attributes and namespaces stand among their parent's children.
 pub fn is_child(kind: u64) -> bool
     ensures { result ≡ child_number kind }
 {
-    if kind == 2 { false } else { kind != 5 }
+    kind != ATTR && kind != NAMESPACE
 }
 
 // Whether a node may be the parent of another: the Root and elements hold children, elements alone attributes and namespaces.
@@ -14,8 +16,8 @@ pub fn may_own(owner: u64, owned: u64) -> bool
     ensures { result ≡ owns_number owner owned }
 {
     if is_child(owned) {
-        owner <= 1
+        owner <= ELEMENT
     } else {
-        owner == 1
+        owner == ELEMENT
     }
 }

@@ -9,19 +9,13 @@ ghost use Rattle.structure.specs.Tests.{owns_number};
 use crate::node::{is_child, may_own};
 use entries::nodes::{is_current, kind_of, parent_of};
 use layout::Document;
-use records::Parent;
 
 // Whether a handle resolves, to a node that may be the parent of one of this kind.
 fn owner_fits(d: Document, mem: &[u64], handle: u64, kind: u64) -> bool
     requires { (memory_ok d (length mem.now) ≡ true) × (words_hold d mem.now ≡ true) }
     ensures { result ≡ (resolves (decode_nodes d mem.now) handle && owns_number (kind_number (kind_at (decode_nodes d mem.now) handle)) kind) }
 {
-    if is_current(d, mem, handle) {
-        let owner = kind_of(d, mem, (handle % 4294967296) as usize);
-        may_own(owner, kind)
-    } else {
-        false
-    }
+    is_current(d, mem, handle) && may_own(kind_of(d, mem, (handle % 4294967296) as usize), kind)
 }
 
 // Whether a live slot's parent, or that it has none, fits its kind.
@@ -30,9 +24,8 @@ pub fn parent_fits(d: Document, mem: &[u64], s: usize) -> bool
     ensures { result ≡ parent_holds (decode_nodes d mem.now) s (parent_in (decode_nodes d mem.now) s) }
 {
     let kind = kind_of(d, mem, s);
-    let parent = parent_of(d, mem, s);
-    match parent {
-        Parent::None => is_child(kind),
-        Parent::Of(id) => owner_fits(d, mem, records::handle::word_of(id), kind),
+    match parent_of(d, mem, s) {
+        None => is_child(kind),
+        Some(id) => owner_fits(d, mem, records::handle::word_of(id), kind),
     }
 }

@@ -28,8 +28,8 @@ pub fn clear_texts(d: Document, scratch: &mut [u64])
     ensures { scratch.new ≡ put (text_marks_at (limits_of d.limits)) (replicate d.counts.texts 0) scratch.old }
 {
     let at = marks_at(d.limits);
-    let c = d.counts;
-    words::fill(scratch, at, c.texts, 0);
+    let end = at + d.counts.texts;
+    scratch[at..end].fill(0);
 }
 
 // The fields of a live slot are tested, and its text slots counted.
@@ -38,8 +38,7 @@ pub fn count_fields(d: Document, mem: &[u64], s: usize, scratch: &mut [u64]) -> 
     ensures { Fields d mem.now s scratch.old scratch.new result }
 {
     let at = marks_at(d.limits);
-    let c = d.counts;
-    let end = at + c.texts;
+    let end = at + d.counts.texts;
     count_node(d, mem, s, &mut scratch[at..end])
 }
 
@@ -50,7 +49,6 @@ pub fn check_pool(d: Document, mem: &[u64], scratch: &mut [u64]) -> bool
     ensures { result ≡ pool_holds d mem.now }
 {
     let at = marks_at(d.limits);
-    let c = d.counts;
-    let end = at + c.texts;
+    let end = at + d.counts.texts;
     check_texts(d, mem, &mut scratch[at..end])
 }

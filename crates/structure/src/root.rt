@@ -1,40 +1,36 @@
 // Rule 7: "The Root has at most one element child."
-ghost use Rattle.std.specs.Prelude.{◌≡◌, true, ◌+◌, ◌≤◌, length};
+ghost use Rattle.std.specs.Prelude.{◌≡◌, true, length};
 ghost use Rattle.words.specs.Lists.{all, count_of};
-ghost use Rattle.blocks.specs.Arena.{block, list_of};
 ghost use Rattle.model.specs.Kinds.{children};
 ghost use Rattle.model.specs.Doc.{resolves};
 ghost use Rattle.model.specs.RulesTest.{counts_and_fields_hold, entry_holds, entries_hold, blocks_hold, one_root_element_holds};
 ghost use Rattle.layout.specs.Layout.{memory_ok};
-ghost use Rattle.memory.specs.Decode.{arena_in};
 ghost use Rattle.entries.specs.Nodes.{decode_nodes};
 ghost use Rattle.structure.specs.Tests.{element_test};
 
 use entries::nodes::{block_of, kind_of};
 use layout::{Arena, Document};
-use memory::read::entry;
+use memory::parts::block_words;
+use records::kind::ELEMENT;
 
 // Whether a handle that resolves is an element's.
 fn shows_element(d: Document, mem: &[u64], handle: u64) -> bool
     requires { (memory_ok d (length mem.now) ≡ true) × (resolves (decode_nodes d mem.now) handle ≡ true) }
     ensures { result ≡ element_test (decode_nodes d mem.now) handle }
 {
-    kind_of(d, mem, (handle % 4294967296) as usize) == 1
+    kind_of(d, mem, (handle % 4294967296) as usize) == ELEMENT
 }
 
-// How many entries of the Root's block of children are elements, where rule 4 holds of them.
-fn count_elements(d: Document, mem: &[u64], start: usize, len: usize) -> usize
-    requires { (memory_ok d (length mem.now) ≡ true) × (start + len ≤ d.limits.children) × (all (entry_holds (decode_nodes d mem.now) children 0) (list_of (arena_in d children mem.now) (block start len)) ≡ true) }
-    ensures { result ≡ count_of (element_test (decode_nodes d mem.now)) (list_of (arena_in d children mem.now) (block start len)) }
+// How many of the Root's children are elements, where rule 4 holds of them.
+fn count_elements(d: Document, mem: &[u64], entries: &[u64]) -> usize
+    requires { (memory_ok d (length mem.now) ≡ true) × (all (entry_holds (decode_nodes d mem.now) children 0) entries.now ≡ true) }
+    ensures { result ≡ count_of (element_test (decode_nodes d mem.now)) entries.now }
 {
     let mut count = 0;
-    let mut k = 0;
-    while k < len {
-        let word = entry(d, mem, Arena::Children, start + k);
+    for &word in entries {
         if shows_element(d, mem, word) {
             count += 1;
         }
-        k += 1;
     }
     count
 }
@@ -46,7 +42,6 @@ pub fn check_root_element(d: Document, mem: &[u64]) -> bool
     ensures { result ≡ one_root_element_holds (decode_nodes d mem.now) }
 {
     let block = block_of(d, mem, Arena::Children, 0);
-    let start = block.start;
-    let len = block.len;
-    count_elements(d, mem, start as usize, len as usize) <= 1
+    let entries = block_words(d, mem, Arena::Children, block);
+    count_elements(d, mem, entries) <= 1
 }

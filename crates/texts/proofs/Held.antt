@@ -2,7 +2,6 @@
 -- Assumes nothing.
 use mathlib.Core.Path.{◌≡◌, refl, sym, ap, ◌∙◌}
 use mathlib.Core.Bool.{Bool, true}
-use mathlib.Core.Option.{some}
 use mathlib.Core.List.{List, [], ◌∷◌, ◌++◌, reverse}
 use Prim.Native.Nat.{ℕ, suc, ◌+◌, ◌-◌, ◌≤◌, ◌<◌}
 use native.Mathlib.Numerals.{add-one}
@@ -24,7 +23,7 @@ use Rattle.texts.specs.Rule.{FreeTexts}
 use Rattle.texts.specs.Words.{bytes_at, pool_of, Counted, PoolHeld, counts_fit, rewritten, StoredTo, ReplacedTo}
 use Rattle.texts.specs.declared.TextLimits.{TextLimits}
 use Rattle.texts.specs.declared.TextCounts.{TextCounts}
-use Rattle.texts.specs.declared.storing.TextField.TheVariants.{Nothing, Slot}
+use Rattle.std.specs.Prelude.{Some, None}
 use Rattle.texts.proofs.Lists.{reverse_snoc}
 use Rattle.texts.proofs.Pool.{first-there, stored-empty, stored-new, stored-reused, stored_slot-new, stored_slot-reused}
 use Rattle.texts.proofs.Words.{lengths-add, pool-slots, text-ends, text-length}
@@ -73,7 +72,7 @@ module _ (limits : TextLimits) (counts : TextCounts) (words : List ℕ) (h : Cou
         let q = ap reverse (stack-written limits counts words h slot m t f n g) in
         λ i. record { texts = p i; free = q i }
 
-    replaced-pool : pool_of limits replaced_counts (rewritten limits counts words slot t) ≡ replaced (pool_of limits counts words) (some slot) t
+    replaced-pool : pool_of limits replaced_counts (rewritten limits counts words slot t) ≡ replaced (pool_of limits counts words) (Some slot) t
     unfolding pool_of replaced
     replaced-pool = reused-pool counts.free h.free (counts.bytes - length_of words slot + length t)
 
@@ -85,7 +84,7 @@ module _ (limits : TextLimits) (counts : TextCounts) (words : List ℕ) (h : Cou
 
 module _ (limits : TextLimits) (counts : TextCounts) (words : List ℕ) (held : PoolHeld limits counts words) where
   -- an empty text takes no slot
-  pub stored-nothing : (t : List ℕ) → length t ≡ 0 → StoredTo limits counts words words t (record { field = Nothing; counts = counts })
+  pub stored-nothing : (t : List ℕ) → length t ≡ 0 → StoredTo limits counts words words t (record { field = None; counts = counts })
   stored-nothing [] e = record { field = refl; pool = sym (stored-empty (pool_of limits counts words)); counted = held.counted }
   stored-nothing (b ∷ t) e = absurd (omega arith)
 
@@ -116,7 +115,7 @@ module _ (limits : TextLimits) (counts : TextCounts) (words : List ℕ) (held : 
     reused_counts n = record { slots = counts.slots; free = counts.free - 1; bytes = counts.bytes + n }
 
     pub reused-to : (t after : List ℕ) → 0 < length t → counts.bytes + length t ≤ limits.bytes → after ≡ rewritten limits counts words top t
-        → StoredTo limits counts words after t (record { field = Slot (record { 0 = top }); counts = reused_counts (length t) })
+        → StoredTo limits counts words after t (record { field = Some (record { 0 = top }); counts = reused_counts (length t) })
     reused-to [] after n f e = absurd (omega arith)
     reused-to (b ∷ t) after n f e =
         rw e
@@ -154,7 +153,7 @@ module _ (limits : TextLimits) (counts : TextCounts) (words : List ℕ) (held : 
     none_free = ap reverse (ap (λ (n : ℕ). part limits.slots n words) z ∙ part_none words limits.slots)
 
     abbrev new_counts : ℕ → TextCounts
-    new_counts n = record { slots = counts.slots + 1; free = 0; bytes = counts.bytes + n }
+    new_counts n = record { slots = counts.slots + 1; free = counts.free; bytes = counts.bytes + n }
 
     abbrev laid : List ℕ → List ℕ
     laid t = put (bytes_at limits + counts.bytes) t (set words counts.slots (counts.bytes + length t))
@@ -216,16 +215,16 @@ module _ (limits : TextLimits) (counts : TextCounts) (words : List ℕ) (held : 
       unfolding pool_of
       pool-laid =
           let p = texts-laid in
-          let q = ap reverse (part_none (laid t) limits.slots) in
+          let q = ap reverse (ap (λ (n : ℕ). part limits.slots n (laid t)) z ∙ part_none (laid t) limits.slots) in
           λ i. record { texts = p i; free = q i }
 
     pub new-to : (t after : List ℕ) → 0 < length t → counts.bytes + length t ≤ limits.bytes → after ≡ laid t
-        → StoredTo limits counts words after t (record { field = Slot (record { 0 = counts.slots }); counts = new_counts (length t) })
+        → StoredTo limits counts words after t (record { field = Some (record { 0 = counts.slots }); counts = new_counts (length t) })
     new-to [] after n f e = absurd (omega arith)
     new-to (b ∷ t) after n f e =
         rw e
         (record {
-          field = sym (stored_slot-new (pool_of limits counts words) b t none_free ∙ ap some (pool-slots limits counts words held.counted));
+          field = sym (stored_slot-new (pool_of limits counts words) b t none_free ∙ ap Some (pool-slots limits counts words held.counted));
           pool = pool-laid (b ∷ t) f ∙ sym (stored-new (pool_of limits counts words) b t none_free);
           counted = counted-laid (b ∷ t) f;
         })

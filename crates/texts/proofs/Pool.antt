@@ -1,9 +1,9 @@
 -- What storing, replacing and releasing a text do to the pool: the text itself, every other text, the counts, and Full.
 -- Assumes nothing.
+use Rattle.std.specs.Prelude.{None, Some}
 use mathlib.Core.Path.{◌≡◌, refl, sym, ap, ◌∙◌}
 use mathlib.Core.Logic.{◌⊎◌, inl, inr}
 use mathlib.Core.Bool.{Bool, true, ◌&&◌, cond}
-use mathlib.Core.Option.{none, some}
 use mathlib.Core.List.{List, [], ◌∷◌, ◌++◌}
 use Prim.Native.Nat.{ℕ, ◌+◌, ◌-◌, ◌≤◌, ◌<◌}
 use native.Mathlib.Decide.{dec_lt}
@@ -29,10 +29,10 @@ module _ (p : Pool) (b : ℕ) (t : List ℕ) where
   unfolding stored
   stored-reused s l e = rw e
 
-  pub stored_slot-new : p.free ≡ [] → stored_slot p (b ∷ t) ≡ some (length p.texts)
+  pub stored_slot-new : p.free ≡ [] → stored_slot p (b ∷ t) ≡ Some (length p.texts)
   stored_slot-new e = rw e
 
-  pub stored_slot-reused : (s : ℕ) (l : List ℕ) → p.free ≡ s ∷ l → stored_slot p (b ∷ t) ≡ some s
+  pub stored_slot-reused : (s : ℕ) (l : List ℕ) → p.free ≡ s ∷ l → stored_slot p (b ∷ t) ≡ Some s
   stored_slot-reused s l e = rw e
 
 pub stored-empty : (p : Pool) → stored p [] ≡ p
@@ -61,35 +61,35 @@ unfolding stored
 stored_same p [] h = refl
 stored_same p (b ∷ t) h = go p.free h.inside
   where
-    go : (l : List ℕ) → ((s : ℕ) → 0 < count_of (eqb s) l → s < length p.texts) → text_at (stored_from l p (b ∷ t)) (some (next_slot_from l p)) ≡ b ∷ t
+    go : (l : List ℕ) → ((s : ℕ) → 0 < count_of (eqb s) l → s < length p.texts) → text_at (stored_from l p (b ∷ t)) (Some (next_slot_from l p)) ≡ b ∷ t
     go [] k = get_or_at p.texts (b ∷ t) [] [] (length p.texts) refl
     go (s ∷ l) k = get_or-set_same p.texts s (b ∷ t) [] (k s (first-there s l))
 
 -- every other text keeps its bytes
-pub stored_other : (p : Pool) (t : List ℕ) (s : ℕ) → (stored_slot p t ≡ some s → ⊥) → text_at (stored p t) (some s) ≡ text_at p (some s)
+pub stored_other : (p : Pool) (t : List ℕ) (s : ℕ) → (stored_slot p t ≡ Some s → ⊥) → text_at (stored p t) (Some s) ≡ text_at p (Some s)
 unfolding stored
 stored_other p [] s h = refl
 stored_other p (b ∷ t) s h = go p.free h
   where
-    go : (l : List ℕ) → (some (next_slot_from l p) ≡ some s → ⊥) → text_at (stored_from l p (b ∷ t)) (some s) ≡ text_at p (some s)
-    go [] k = get_or-snoc-other p.texts (b ∷ t) s (λ e. k (ap some (sym e)))
-    go (x ∷ l) k = get_or-set_other p.texts x s (b ∷ t) [] (λ e. k (ap some (sym e)))
+    go : (l : List ℕ) → (Some (next_slot_from l p) ≡ Some s → ⊥) → text_at (stored_from l p (b ∷ t)) (Some s) ≡ text_at p (Some s)
+    go [] k = get_or-snoc-other p.texts (b ∷ t) s (λ e. k (ap Some (sym e)))
+    go (x ∷ l) k = get_or-set_other p.texts x s (b ∷ t) [] (λ e. k (ap Some (sym e)))
 
 -- the slot taken is a free one, or new
-pub stored-where : (p : Pool) (t : List ℕ) (s : ℕ) → stored_slot p t ≡ some s → (0 < count_of (eqb s) p.free) ⊎ (s ≡ length p.texts)
+pub stored-where : (p : Pool) (t : List ℕ) (s : ℕ) → stored_slot p t ≡ Some s → (0 < count_of (eqb s) p.free) ⊎ (s ≡ length p.texts)
 stored-where p [] s e =
     let z : ◌≡◌ {A = ℕ} 0 1 = cc in
     absurd (omega arith)
 stored-where p (b ∷ t) s e = go p.free e
   where
-    go : (l : List ℕ) → some (next_slot_from l p) ≡ some s → (0 < count_of (eqb s) l) ⊎ (s ≡ length p.texts)
+    go : (l : List ℕ) → Some (next_slot_from l p) ≡ Some s → (0 < count_of (eqb s) l) ⊎ (s ≡ length p.texts)
     go [] k = inr (cc)
     go (x ∷ l) k =
         let q : x ≡ s = cc in
         inl (rw q (first-there s l))
 
 -- so a text that has an owner keeps its bytes
-pub stored-kept : (p : Pool) (t : List ℕ) (s : ℕ) → s < length p.texts → count_of (eqb s) p.free ≡ 0 → text_at (stored p t) (some s) ≡ text_at p (some s)
+pub stored-kept : (p : Pool) (t : List ℕ) (s : ℕ) → s < length p.texts → count_of (eqb s) p.free ≡ 0 → text_at (stored p t) (Some s) ≡ text_at p (Some s)
 stored-kept p t s h k = stored_other p t s (λ e. none_of (stored-where p t s e))
   where
     none_of : (0 < count_of (eqb s) p.free) ⊎ (s ≡ length p.texts) → ⊥
@@ -129,39 +129,39 @@ stored_bytes p (b ∷ t) h = go p.free h.inside h.empty
 
 -- ---- replace_text
 
-pub replaced-same : (p : Pool) (s : ℕ) (t : List ℕ) → s < length p.texts → text_at (replaced p (some s) t) (some s) ≡ t
+pub replaced-same : (p : Pool) (s : ℕ) (t : List ℕ) → s < length p.texts → text_at (replaced p (Some s) t) (Some s) ≡ t
 unfolding replaced
 replaced-same p s t h = get_or-set_same p.texts s t [] h
 
-pub replaced-other : (p : Pool) (s : ℕ) (t : List ℕ) (i : ℕ) → (i ≡ s → ⊥) → text_at (replaced p (some s) t) (some i) ≡ text_at p (some i)
+pub replaced-other : (p : Pool) (s : ℕ) (t : List ℕ) (i : ℕ) → (i ≡ s → ⊥) → text_at (replaced p (Some s) t) (Some i) ≡ text_at p (Some i)
 unfolding replaced
 replaced-other p s t i h = get_or-set_other p.texts s i t [] h
 
-pub replaced-none : (p : Pool) (t : List ℕ) → replaced p none t ≡ stored p t
+pub replaced-none : (p : Pool) (t : List ℕ) → replaced p None t ≡ stored p t
 unfolding replaced
 replaced-none p t = refl
 
-pub replaced-texts : (p : Pool) (s : ℕ) (t : List ℕ) → (replaced p (some s) t).texts ≡ set p.texts s t
+pub replaced-texts : (p : Pool) (s : ℕ) (t : List ℕ) → (replaced p (Some s) t).texts ≡ set p.texts s t
 unfolding replaced
 replaced-texts p s t = refl
 
-pub replaced-free : (p : Pool) (s : ℕ) (t : List ℕ) → (replaced p (some s) t).free ≡ p.free
+pub replaced-free : (p : Pool) (s : ℕ) (t : List ℕ) → (replaced p (Some s) t).free ≡ p.free
 unfolding replaced
 replaced-free p s t = refl
 
-pub replaced-slots : (p : Pool) (s : ℕ) (t : List ℕ) → length (replaced p (some s) t).texts ≡ length p.texts
+pub replaced-slots : (p : Pool) (s : ℕ) (t : List ℕ) → length (replaced p (Some s) t).texts ≡ length p.texts
 unfolding replaced
 replaced-slots p s t = length-set p.texts s t
 
 -- the old text's bytes are given back
 pub replaced-bytes : (p : Pool) (s : ℕ) (t : List ℕ) → s < length p.texts
-    → length (bytes_of (replaced p (some s) t).texts) + length (text_at p (some s)) ≡ length (bytes_of p.texts) + length t
+    → length (bytes_of (replaced p (Some s) t).texts) + length (text_at p (Some s)) ≡ length (bytes_of p.texts) + length t
 unfolding replaced
 replaced-bytes p s t h = length-joined-set (λ u. u) p.texts s t [] h
 
 -- ---- release_chars
 
-pub released-same : (p : Pool) (s : ℕ) → text_at (released p (some s)) (some s) ≡ []
+pub released-same : (p : Pool) (s : ℕ) → text_at (released p (Some s)) (Some s) ≡ []
 unfolding released
 released-same p s = go (dec_lt s (length p.texts))
   where
@@ -171,27 +171,27 @@ released-same p s = go (dec_lt s (length p.texts))
         let m : length (set p.texts s []) ≤ s = simp length-set (omega arith) in
         get_or-eq_default (set p.texts s []) [] m
 
-pub released-other : (p : Pool) (s i : ℕ) → (i ≡ s → ⊥) → text_at (released p (some s)) (some i) ≡ text_at p (some i)
+pub released-other : (p : Pool) (s i : ℕ) → (i ≡ s → ⊥) → text_at (released p (Some s)) (Some i) ≡ text_at p (Some i)
 unfolding released
 released-other p s i h = get_or-set_other p.texts s i [] [] h
 
-pub released-none : (p : Pool) → released p none ≡ p
+pub released-none : (p : Pool) → released p None ≡ p
 unfolding released
 released-none p = refl
 
-pub released-texts : (p : Pool) (s : ℕ) → (released p (some s)).texts ≡ set p.texts s []
+pub released-texts : (p : Pool) (s : ℕ) → (released p (Some s)).texts ≡ set p.texts s []
 unfolding released
 released-texts p s = refl
 
-pub released-free : (p : Pool) (s : ℕ) → (released p (some s)).free ≡ s ∷ p.free
+pub released-free : (p : Pool) (s : ℕ) → (released p (Some s)).free ≡ s ∷ p.free
 unfolding released
 released-free p s = refl
 
-pub released-slots : (p : Pool) (s : ℕ) → length (released p (some s)).texts ≡ length p.texts
+pub released-slots : (p : Pool) (s : ℕ) → length (released p (Some s)).texts ≡ length p.texts
 unfolding released
 released-slots p s = length-set p.texts s []
 
-pub released-bytes : (p : Pool) (s : ℕ) → s < length p.texts → length (bytes_of (released p (some s)).texts) + length (text_at p (some s)) ≡ length (bytes_of p.texts)
+pub released-bytes : (p : Pool) (s : ℕ) → s < length p.texts → length (bytes_of (released p (Some s)).texts) + length (text_at p (Some s)) ≡ length (bytes_of p.texts)
 unfolding released
 released-bytes p s h = omega (arith, length-joined-set (λ u. u) p.texts s [] [] h)
 
@@ -237,11 +237,11 @@ module _ (slotLimit byteLimit : ℕ) (p : Pool) where
         one (b ∷ u) = omega arith
 
     pub replaced-fits : (s : ℕ) (t : List ℕ) → s < length p.texts
-        → texts_fit slotLimit byteLimit p 0 (length (text_at p (some s))) (length t)
-        ≡ (leb (length (replaced p (some s) t).texts) slotLimit && leb (length (bytes_of (replaced p (some s) t).texts)) byteLimit)
+        → texts_fit slotLimit byteLimit p 0 (length (text_at p (Some s))) (length t)
+        ≡ (leb (length (replaced p (Some s) t).texts) slotLimit && leb (length (bytes_of (replaced p (Some s) t).texts)) byteLimit)
     replaced-fits s t h =
-        let e : length (replaced p (some s) t).texts ≡ length p.texts = replaced-slots p s t in
-        fits_after (replaced p (some s) t) 0 (length (text_at p (some s))) (length t) (λ g. omega arith) (λ g. omega arith) (replaced-bytes p s t h)
+        let e : length (replaced p (Some s) t).texts ≡ length p.texts = replaced-slots p s t in
+        fits_after (replaced p (Some s) t) 0 (length (text_at p (Some s))) (length t) (λ g. omega arith) (λ g. omega arith) (replaced-bytes p s t h)
 
     -- two texts of one call are counted together
     pub stored-stored-fits : (t u : List ℕ) → FreeTexts p → FreeTexts (stored p t)

@@ -1,8 +1,8 @@
 -- Structure rule 8 holds again after each edit of the pool.
 -- Assumes nothing.
+use Rattle.std.specs.Prelude.{Option, None, Some}
 use mathlib.Core.Path.{◌≡◌, ap, ◌∙◌}
 use mathlib.Core.Bool.{Bool, cond}
-use mathlib.Core.Option.{Option, none, some}
 use mathlib.Core.List.{List, [], ◌∷◌, ◌++◌}
 use Prim.Native.Nat.{ℕ, ◌+◌, ◌≤◌, ◌<◌}
 use native.Mathlib.Decide.{ℕ_discrete, dec_lt}
@@ -17,10 +17,10 @@ use Rattle.texts.specs.Pool.{Pool, next_slot_from, stored_from, stored_slot, sto
 use Rattle.texts.specs.Rule.{FreeTexts, holds, Owned}
 use Rattle.texts.proofs.Pool.{first-there}
 
-holds_same : (s : ℕ) → holds (some s) s ≡ 1
+holds_same : (s : ℕ) → holds (Some s) s ≡ 1
 holds_same s = counted_same s
 
-holds-other : (x s : ℕ) → (s ≡ x → ⊥) → holds (some x) s ≡ 0
+holds-other : (x s : ℕ) → (s ≡ x → ⊥) → holds (Some x) s ≡ 0
 holds-other x s h = counted-other s x h
 
 -- a slot that has an owner is not in the free list
@@ -35,13 +35,13 @@ owned-not-free p owners o s h = go (dec_lt s (length p.texts))
 
 module _ (p : Pool) (t : List ℕ) (owners : ℕ → ℕ) (o : Owned p owners) where
   new-once : (s : ℕ) → s < length (p.texts ++ (t ∷ [])) → ((s : ℕ) → s < length p.texts → owners s + 0 ≡ 1) → Dec (s ≡ length p.texts)
-      → (owners s + holds (some (length p.texts)) s) + 0 ≡ 1
-  new-once s h k (yes e) = omega (arith, o.made s (omega arith), ap (λ (i : ℕ). holds (some (length p.texts)) i) e ∙ holds_same (length p.texts))
+      → (owners s + holds (Some (length p.texts)) s) + 0 ≡ 1
+  new-once s h k (yes e) = omega (arith, o.made s (omega arith), ap (λ (i : ℕ). holds (Some (length p.texts)) i) e ∙ holds_same (length p.texts))
   new-once s h k (no e) =
       let g : s < length p.texts + 1 = simp length-append at h in
       omega (arith, k s (omega arith), holds-other (length p.texts) s e)
 
-  new-made : (s : ℕ) → length (p.texts ++ (t ∷ [])) ≤ s → owners s + holds (some (length p.texts)) s ≡ 0
+  new-made : (s : ℕ) → length (p.texts ++ (t ∷ [])) ≤ s → owners s + holds (Some (length p.texts)) s ≡ 0
   new-made s h =
       let g : length p.texts + 1 ≤ s = simp length-append at h in
       omega (arith, o.made s (omega arith), holds-other (length p.texts) s (λ e. omega arith))
@@ -53,7 +53,7 @@ stored-owned p [] owners o f = record { once = λ s h. omega (arith, o.once s h)
 stored-owned p (b ∷ t) owners o f = go p.free o.once f.inside
   where
     go : (l : List ℕ) → ((s : ℕ) → s < length p.texts → owners s + count_of (eqb s) l ≡ 1) → ((s : ℕ) → 0 < count_of (eqb s) l → s < length p.texts)
-        → Owned (stored_from l p (b ∷ t)) (λ s. owners s + holds (some (next_slot_from l p)) s)
+        → Owned (stored_from l p (b ∷ t)) (λ s. owners s + holds (Some (next_slot_from l p)) s)
     go [] k i = record { once = λ s h. new-once p (b ∷ t) owners o s h k (ℕ_discrete s (length p.texts)); made = new-made p (b ∷ t) owners o }
     go (x ∷ l) k i =
         let e : length (set p.texts x (b ∷ t)) ≡ length p.texts = length-set p.texts x (b ∷ t) in
@@ -67,10 +67,10 @@ stored-owned p (b ∷ t) owners o f = go p.free o.once f.inside
 pub replaced-owned : (p : Pool) (f : Option ℕ) (t : List ℕ) (owners after : ℕ → ℕ) → Owned p owners → FreeTexts p
     → ((s : ℕ) → after s + holds f s ≡ owners s + holds (replaced_slot p f t) s) → Owned (replaced p f t) after
 unfolding replaced
-replaced-owned p none t owners after o f e =
+replaced-owned p None t owners after o f e =
     let w : Owned (stored p t) (λ s. owners s + holds (stored_slot p t) s) = stored-owned p t owners o f in
     record { once = λ s h. omega (arith, w.once s h, e s); made = λ s h. omega (arith, w.made s h, e s) }
-replaced-owned p (some x) t owners after o f e =
+replaced-owned p (Some x) t owners after o f e =
     record {
       once = λ s h. omega (arith, o.once s (rw (length-set p.texts x t) at h), e s);
       made = λ s h. omega (arith, o.made s (rw (length-set p.texts x t) at h), e s);
@@ -79,8 +79,8 @@ replaced-owned p (some x) t owners after o f e =
 -- a released text's field is one owner less
 pub released-owned : (p : Pool) (f : Option ℕ) (owners after : ℕ → ℕ) → Owned p owners → ((s : ℕ) → after s + holds f s ≡ owners s) → Owned (released p f) after
 unfolding released
-released-owned p none owners after o e = record { once = λ s h. omega (arith, o.once s h, e s); made = λ s h. omega (arith, o.made s h, e s) }
-released-owned p (some x) owners after o e =
+released-owned p None owners after o e = record { once = λ s h. omega (arith, o.once s h, e s); made = λ s h. omega (arith, o.made s h, e s) }
+released-owned p (Some x) owners after o e =
     record {
       once = λ s h. omega (arith, o.once s (rw (length-set p.texts x []) at h), e s);
       made = λ s h. omega (arith, o.made s (rw (length-set p.texts x []) at h), e s);
@@ -105,7 +105,7 @@ stored-free-texts p (b ∷ t) once f = go p.free once f.inside f.empty
         apart : (s : ℕ) → 0 < count_of (eqb s) l → s ≡ x → ⊥
         apart s h q = omega (arith, k s, ap (λ (w : Bool). cond {A = ℕ} w 1 0) (eq-eqb s x q))
 
-pub replaced-free-texts : (p : Pool) (x : ℕ) (t : List ℕ) → count_of (eqb x) p.free ≡ 0 → FreeTexts p → FreeTexts (replaced p (some x) t)
+pub replaced-free-texts : (p : Pool) (x : ℕ) (t : List ℕ) → count_of (eqb x) p.free ≡ 0 → FreeTexts p → FreeTexts (replaced p (Some x) t)
 unfolding replaced
 replaced-free-texts p x t h f =
     record {
@@ -116,7 +116,7 @@ replaced-free-texts p x t h f =
     apart : (s : ℕ) → 0 < count_of (eqb s) p.free → s ≡ x → ⊥
     apart s k q = omega (arith, ap (λ (i : ℕ). count_of (eqb i) p.free) q)
 
-pub released-free-texts : (p : Pool) (x : ℕ) → x < length p.texts → FreeTexts p → FreeTexts (released p (some x))
+pub released-free-texts : (p : Pool) (x : ℕ) → x < length p.texts → FreeTexts p → FreeTexts (released p (Some x))
 unfolding released
 released-free-texts p x h f =
     record { inside = λ s k. rw (length-set p.texts x []) (inside s k (ℕ_discrete s x)); empty = λ s k. empty s k (ℕ_discrete s x) }

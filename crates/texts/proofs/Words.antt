@@ -1,19 +1,19 @@
--- Between the words of a text pool and the pool: what the counts say, what is read, Full, and the test of rules 1 and 8.
+-- Between the words of a text pool and the pool: what the counts say, what is read, and the test of rules 1 and 8.
 -- Assumes nothing.
+use Rattle.std.specs.Prelude.{Some}
 use mathlib.Core.Path.{◌≡◌, sym, ap, ◌∙◌}
-use mathlib.Core.Bool.{Bool, true, false, ◌&&◌, and-true, and-false}
-use mathlib.Core.Option.{some}
+use mathlib.Core.Bool.{Bool, true, ◌&&◌}
 use mathlib.Core.List.{List, [], ◌∷◌}
 use Prim.Native.Nat.{ℕ, ◌+◌, ◌-◌, ◌≤◌, ◌<◌, min}
 use native.Mathlib.Decide.{dec_lt}
 use native.Mathlib.Omega.{arith}
 use lib.ListN.{length, get_or, take, length-reverse, get_or-eq_default}
 use lib.Dec.{eqb, ltb, leb}
-use borrow.Author.Tests.{le-leb, lt-leb, leb-true, lt-ltb, ltb-true, eqb-true, eq-eqb}
+use borrow.Author.Tests.{le-leb, leb-true, lt-ltb, ltb-true, eqb-true, eq-eqb}
 use Rattle.words.specs.Parts.{part}
 use Rattle.words.specs.Lists.{sum, all, count_of}
 use Rattle.words.specs.Ends.{start_of, length_of, lengths_of, ends_reach}
-use Rattle.words.proofs.Tests.{and_left, and_right, and_both, leb-same}
+use Rattle.words.proofs.Tests.{and_left, and_right, and_both}
 use Rattle.words.proofs.Parts.{part_none, length_part}
 use Rattle.words.proofs.Reach as reach
 use Rattle.words.proofs.Places.{reach-place}
@@ -24,25 +24,6 @@ use Rattle.texts.specs.declared.TextLimits.{TextLimits}
 use Rattle.texts.specs.declared.TextCounts.{TextCounts}
 use Rattle.texts.proofs.Places.{shown-at, shown-empty}
 use Rattle.texts.proofs.Lists.{all-count, count-all, count_of-reverse}
-
--- ---- Full
-
-module _ (limits : TextLimits) (counts : TextCounts) (k off on : ℕ) (s : counts.slots ≤ limits.slots) (b : counts.bytes ≤ limits.bytes) (o : off ≤ counts.bytes) where
-  pub bytes-full : limits.bytes - (counts.bytes - off) < on → false ≡ counts_fit limits counts k off on
-  unfolding counts_fit
-  bytes-full h = rw (lt-leb (counts.bytes + on) (limits.bytes + off) (omega arith), and-false (leb (counts.slots + k) (limits.slots + counts.free)))
-
-  pub slots-new : on ≤ limits.bytes - (counts.bytes - off) → k ≤ limits.slots - counts.slots → true ≡ counts_fit limits counts k off on
-  unfolding counts_fit
-  slots-new h g = rw (le-leb (counts.bytes + on) (limits.bytes + off) (omega arith), le-leb (counts.slots + k) (limits.slots + counts.free) (omega arith))
-
-  pub slots-free : on ≤ limits.bytes - (counts.bytes - off) → limits.slots - counts.slots < k
-      → leb (k - (limits.slots - counts.slots)) counts.free ≡ counts_fit limits counts k off on
-  unfolding counts_fit
-  slots-free h g =
-      leb-same (k - (limits.slots - counts.slots)) counts.free (counts.slots + k) (limits.slots + counts.free) (λ q. omega arith) (λ q. omega arith)
-      ∙ sym (ap (λ (t : Bool). leb (counts.slots + k) (limits.slots + counts.free) && t) (le-leb (counts.bytes + on) (limits.bytes + off) (omega arith))
-      ∙ and-true (leb (counts.slots + k) (limits.slots + counts.free)))
 
 -- ---- the counts are those of the pool
 
@@ -103,11 +84,11 @@ module _ (limits : TextLimits) (counts : TextCounts) (words : List ℕ) (h : Cou
     text-ends = omega (arith, text-end, text-within)
 
     -- the text of a slot is where the ends say
-    pub pool-text : text_at (pool_of limits counts words) (some slot) ≡ part (bytes_at limits + start_of words slot) (length_of words slot) words
+    pub pool-text : text_at (pool_of limits counts words) (Some slot) ≡ part (bytes_at limits + start_of words slot) (length_of words slot) words
     unfolding pool_of
     pool-text = reach.piece-taken counts.slots counts.bytes words fits h.ends slot m (bytes_at limits)
 
-    pub text-length : length (text_at (pool_of limits counts words) (some slot)) ≡ length_of words slot
+    pub text-length : length (text_at (pool_of limits counts words) (Some slot)) ≡ length_of words slot
     text-length = ap length pool-text ∙ length_part words (bytes_at limits + start_of words slot) (length_of words slot) (omega (arith, h.size, text-ends))
 
     -- where it is shown to lie
@@ -118,10 +99,10 @@ module _ (limits : TextLimits) (counts : TextCounts) (words : List ℕ) (h : Cou
         let b : min counts.bytes limits.bytes ≡ counts.bytes = omega (arith, h.bytes) in
         rw (a, b) (reach-place counts.slots counts.bytes words fits h.ends slot m)
 
-  pub shown-text : (slot : ℕ) → text_shown limits counts slot words ≡ text_at (pool_of limits counts words) (some slot)
+  pub shown-text : (slot : ℕ) → text_shown limits counts slot words ≡ text_at (pool_of limits counts words) (Some slot)
   shown-text slot = go (dec_lt slot counts.slots)
     where
-      go : Dec (slot < counts.slots) → text_shown limits counts slot words ≡ text_at (pool_of limits counts words) (some slot)
+      go : Dec (slot < counts.slots) → text_shown limits counts slot words ≡ text_at (pool_of limits counts words) (Some slot)
       go (yes m) = shown-at limits counts slot words (record { start = start_of words slot; len = length_of words slot }) (shown-place slot m) ∙ sym (pool-text slot m)
       go (no m) =
           shown-empty limits counts slot words (omega arith)
@@ -130,32 +111,6 @@ module _ (limits : TextLimits) (counts : TextCounts) (words : List ℕ) (h : Cou
 -- ---- the test is the rule
 
 module _ (limits : TextLimits) (counts : TextCounts) (words : List ℕ) where
-  pub slots-over : limits.slots < counts.slots → false ≡ pool_ok limits counts words
-  unfolding pool_ok
-  slots-over h = rw (lt-leb counts.slots limits.slots h)
-
-  module _ (a : counts.slots ≤ limits.slots) where
-    pub free-over : limits.slots < counts.free → false ≡ pool_ok limits counts words
-    unfolding pool_ok
-    free-over h = rw (le-leb counts.slots limits.slots a, lt-leb counts.free limits.slots h)
-
-    module _ (b : counts.free ≤ limits.slots) where
-      pub bytes-over : limits.bytes < counts.bytes → false ≡ pool_ok limits counts words
-      unfolding pool_ok
-      bytes-over h = rw (le-leb counts.slots limits.slots a, le-leb counts.free limits.slots b, lt-leb counts.bytes limits.bytes h)
-
-      module _ (d : counts.bytes ≤ limits.bytes) where
-        pub ends-differ : ends_reach 0 (take counts.slots words) counts.bytes ≡ false → false ≡ pool_ok limits counts words
-        unfolding pool_ok
-        ends-differ e =
-            rw (le-leb counts.slots limits.slots a, le-leb counts.free limits.slots b, le-leb counts.bytes limits.bytes d, e)
-
-        pub ends_same : ends_reach 0 (take counts.slots words) counts.bytes ≡ true → (t : Bool)
-            → t ≡ all (free_ok counts.slots words) (part limits.slots counts.free words) → t ≡ pool_ok limits counts words
-        unfolding pool_ok
-        ends_same e t q =
-            rw (le-leb counts.slots limits.slots a, le-leb counts.free limits.slots b, le-leb counts.bytes limits.bytes d, e) q
-
   -- the free list's part
   module _ (h : Counted limits counts words) where
     free-there : (s : ℕ) → count_of (eqb s) (pool_of limits counts words).free ≡ count_of (eqb s) (part limits.slots counts.free words)
@@ -211,6 +166,7 @@ module _ (limits : TextLimits) (counts : TextCounts) (words : List ℕ) where
       record { counted = h; texts = ok-free h (and_right te tf r₃) }
 
   pub held-ok : PoolHeld limits counts words → pool_ok limits counts words ≡ true
+  unfolding pool_ok
   held-ok p =
       let h : Counted limits counts words = p.counted in
-      sym (ends_same h.slots h.free h.bytes h.ends true (sym (free-ok h p.texts)))
+      rw (le-leb counts.slots limits.slots h.slots, le-leb counts.free limits.slots h.free, le-leb counts.bytes limits.bytes h.bytes, h.ends) (free-ok h p.texts)

@@ -1,6 +1,5 @@
 -- The text pool (01, "Slots"; `expanded` and `free_expanded` of the source): a text for each text slot, and the stack of released slots.
-use Rattle.std.specs.Prelude.{Bool, ◌&&◌, List, [], ◌∷◌, ◌++◌, ℕ, ◌+◌, length, get_or, set, leb}
-use Rattle.std.proofs.Math.Option.{Option, none, some}
+use Rattle.std.specs.Prelude.{Bool, ◌&&◌, List, [], ◌∷◌, ◌++◌, ℕ, ◌+◌, length, get_or, set, leb, Option, None, Some}
 use Rattle.words.specs.Lists.{joined}
 
 pub record Pool : Type 0 where
@@ -15,8 +14,8 @@ bytes_of ts = joined (λ t. t) ts
 
 -- a text field holds a text slot, or none: "A text stored empty takes no text slot"
 abbrev pub text_at : Pool → Option ℕ → List ℕ
-text_at p none = []
-text_at p (some s) = get_or p.texts s []
+text_at p None = []
+text_at p (Some s) = get_or p.texts s []
 
 -- the slot that the next non-empty text takes: the last released, else a new one
 abbrev pub next_slot_from : List ℕ → Pool → ℕ
@@ -29,8 +28,8 @@ stored_from (s ∷ l) p t = record { texts = set p.texts s t; free = l }
 
 -- `store_text`: the field, and the pool after
 abbrev pub stored_slot : Pool → List ℕ → Option ℕ
-stored_slot p [] = none
-stored_slot p (b ∷ t) = some (next_slot_from p.free p)
+stored_slot p [] = None
+stored_slot p (b ∷ t) = Some (next_slot_from p.free p)
 
 unfoldable pub stored : Pool → List ℕ → Pool
 stored p [] = p
@@ -38,22 +37,22 @@ stored p (b ∷ t) = stored_from p.free p (b ∷ t)
 
 -- `replace_text`: "one emptied later keeps its slot"
 abbrev pub replaced_slot : Pool → Option ℕ → List ℕ → Option ℕ
-replaced_slot p none t = stored_slot p t
-replaced_slot p (some s) t = some s
+replaced_slot p None t = stored_slot p t
+replaced_slot p (Some s) t = Some s
 
 unfoldable pub replaced : Pool → Option ℕ → List ℕ → Pool
-replaced p none t = stored p t
-replaced p (some s) t = record { texts = set p.texts s t; free = p.free }
+replaced p None t = stored p t
+replaced p (Some s) t = record { texts = set p.texts s t; free = p.free }
 
 -- `release_chars`: length 0, onto the stack
 unfoldable pub released : Pool → Option ℕ → Pool
-released p none = p
-released p (some s) = record { texts = set p.texts s []; free = s ∷ p.free }
+released p None = p
+released p (Some s) = record { texts = set p.texts s []; free = s ∷ p.free }
 
 -- The same in two parts, so that many texts are released in one pass over the bytes. A slot goes on the stack, and its text stays;
 unfoldable pub pushed : Pool → Option ℕ → Pool
-pushed p none = p
-pushed p (some s) = record { texts = p.texts; free = s ∷ p.free }
+pushed p None = p
+pushed p (Some s) = record { texts = p.texts; free = s ∷ p.free }
 
 abbrev pub emptied : List ℕ → List (List ℕ) → List (List ℕ)
 emptied [] ts = ts

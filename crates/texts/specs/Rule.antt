@@ -1,6 +1,5 @@
 -- Structure rule 8, what it says of texts: "Every pool text slot belongs to one field of one live node, or is in the free text list once with length 0".
-use Rattle.std.specs.Prelude.{◌≡◌, cond, [], ℕ, ◌+◌, ◌≤◌, ◌<◌, length, get_or, eqb}
-use Rattle.std.proofs.Math.Option.{Option, none, some}
+use Rattle.std.specs.Prelude.{◌≡◌, cond, [], ℕ, ◌+◌, ◌≤◌, ◌<◌, length, get_or, eqb, Option, None, Some}
 use Rattle.words.specs.Lists.{count_of}
 use Rattle.texts.specs.Pool.{Pool}
 
@@ -11,8 +10,8 @@ pub record FreeTexts (p : Pool) : Type 0 where
 
 -- whether a text field holds slot s: 1 or 0
 abbrev pub holds : Option ℕ → ℕ → ℕ
-holds none s = 0
-holds (some x) s = cond (eqb s x) 1 0
+holds None s = 0
+holds (Some x) s = cond (eqb s x) 1 0
 
 -- what the layer that knows the nodes has to say, with the number of fields that hold each slot: "one field .. or .. the free text list once"
 pub record Owned (p : Pool) (owners : ℕ → ℕ) : Type 0 where

@@ -1,7 +1,7 @@
 -- The words of a text pool: an end for each text slot that the limit allows, as many words for the stack of released slots, then the bytes, one a word.
-use Rattle.std.specs.Prelude.{◌≡◌, Bool, true, ◌&&◌, cond, List, [], ◌∷◌, map, reverse, ℕ, ◌+◌, ◌-◌, ◌≤◌, ◌<◌, min, length, get_or, set, take, eqb, ltb, leb}
-use Rattle.std.proofs.Math.Option.{Option, none, some}
+use Rattle.std.specs.Prelude.{◌≡◌, Bool, true, ◌&&◌, cond, List, [], ◌∷◌, map, reverse, ℕ, ◌+◌, ◌-◌, ◌≤◌, ◌<◌, min, length, get_or, set, take, eqb, ltb, leb, Option, None, Some}
 use Rattle.words.specs.Parts.{part, put}
+use Rattle.words.specs.declared.TextSlot.{TextSlot}
 use Rattle.words.specs.Lists.{all, count_of}
 use Rattle.words.specs.Pieces.{pieces}
 use Rattle.words.specs.declared.ends.Place.{Place}
@@ -9,8 +9,6 @@ use Rattle.words.specs.Ends.{start_of, length_of, lengths_of, ends_of, ends_reac
 use Rattle.texts.specs.Pool.{Pool, bytes_of, stored_slot, stored, replaced, pushed, reclaimed}
 use Rattle.texts.specs.Rule.{FreeTexts}
 use Rattle.texts.specs.declared.storing.Stored.{Stored}
-use Rattle.texts.specs.declared.storing.TextField.{TextField}
-use Rattle.texts.specs.declared.storing.TextField.TheVariants.{Nothing, Slot}
 use Rattle.texts.specs.declared.TextLimits.{TextLimits}
 use Rattle.texts.specs.declared.TextCounts.{TextCounts}
 
@@ -103,9 +101,9 @@ rewritten limits counts words slot t = put (start_at limits words slot) t (roome
 -- ---- what the edits promise. Bytes beyond those used are left open.
 
 -- a text field as the code answers it
-abbrev pub field_of : TextField → Option ℕ
-field_of Nothing = none
-field_of (Slot s) = some s.0
+abbrev pub field_of : Option TextSlot → Option ℕ
+field_of None = None
+field_of (Some s) = Some s.0
 
 pub record StoredTo (limits : TextLimits) (counts : TextCounts) (words after t : List ℕ) (r : Stored) : Type 0 where
   pub field : field_of r.field ≡ stored_slot (pool_of limits counts words) t
@@ -113,13 +111,13 @@ pub record StoredTo (limits : TextLimits) (counts : TextCounts) (words after t :
   pub counted : Counted limits r.counts after
 
 pub record ReplacedTo (limits : TextLimits) (counts : TextCounts) (words after : List ℕ) (slot : ℕ) (t : List ℕ) (r : TextCounts) : Type 0 where
-  pub pool : pool_of limits r after ≡ replaced (pool_of limits counts words) (some slot) t
+  pub pool : pool_of limits r after ≡ replaced (pool_of limits counts words) (Some slot) t
   pub counted : Counted limits r after
   -- a text of equal length is written over: no other word changes
   pub in_place : length t ≡ length_of words slot → after ≡ put (start_at limits words slot) t words
 
 pub record PushedTo (limits : TextLimits) (counts : TextCounts) (words after : List ℕ) (slot : ℕ) (r : TextCounts) : Type 0 where
-  pub pool : pool_of limits r after ≡ pushed (pool_of limits counts words) (some slot)
+  pub pool : pool_of limits r after ≡ pushed (pool_of limits counts words) (Some slot)
   pub counted : Counted limits r after
 
 -- ---- the bytes of the texts on the stack are given back

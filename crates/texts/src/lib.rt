@@ -24,34 +24,40 @@ pub struct TextCounts {
     pub bytes: usize,
 }
 
-// Where the text of a slot lies, counted from the first byte; an empty place for a number outside the table or bytes outside the pool.
-pub fn text_place(
-    words: &[u64],
-    limits: TextLimits,
-    counts: TextCounts,
-    slot: TextSlot,
-) -> words::ends::Place
-    requires { length words.now ≡ bytes_at limits + limits.bytes }
-    ensures { result ≡ place_shown limits counts slot.0 words.now }
-{
-    let s = slot.0;
-    let n = words::least(counts.slots, limits.slots);
-    let used = words::least(counts.bytes, limits.bytes);
-    words::ends::locate(words, n, used, s as usize)
+// The words of a pool, as many as the limits say, with how much of them is in use.
+#[derive(Clone, Copy)]
+pub struct TextPool<'a> {
+    pub words: &'a [u64],
+    pub limits: TextLimits,
+    pub counts: TextCounts,
+    pub ghost sized: { length words.now ≡ bytes_at limits + limits.bytes },
 }
 
-// Its bytes, as a part of the pool.
-pub fn read_text(words: &[u64], limits: TextLimits, counts: TextCounts, slot: TextSlot) -> &[u64]
-    requires { length words.now ≡ bytes_at limits + limits.bytes }
-    ensures { result.now ≡ text_shown limits counts slot.0 words.now }
-{
-    let s = slot.0;
-    let n = words::least(counts.slots, limits.slots);
-    let used = words::least(counts.bytes, limits.bytes);
-    words::ends::piece(words, limits.slots + limits.slots, n, used, s as usize)
+impl<'a> TextPool<'a> {
+    // Where the text of a slot lies, counted from the first byte; an empty place for a number outside the table or bytes outside the pool.
+    #[tactic(auto, unfolding(crate::specs::Words::place_shown))]
+    pub fn place(self, slot: TextSlot) -> words::ends::Place
+        ensures { result ≡ place_shown self.entry.limits self.entry.counts slot.0 self.entry.words.now }
+    {
+        let n = self.counts.slots.min(self.limits.slots);
+        let used = self.counts.bytes.min(self.limits.bytes);
+        words::ends::locate(self.words, n, used, slot.0 as usize)
+    }
+
+    // Its bytes, as a part of the pool.
+    #[tactic(auto, unfolding(crate::specs::Words::text_shown))]
+    pub fn text(self, slot: TextSlot) -> &'a [u64]
+        ensures { result.now ≡ text_shown self.entry.limits self.entry.counts slot.0 self.entry.words.now }
+    {
+        let n = self.counts.slots.min(self.limits.slots);
+        let used = self.counts.bytes.min(self.limits.bytes);
+        let base = self.limits.slots + self.limits.slots;
+        words::ends::piece(self.words, base, n, used, slot.0 as usize)
+    }
 }
 
 // Whether k more text slots, and the bytes once off are given back and on added, are within the limits.
+#[tactic(auto, unfolding(crate::specs::Words::counts_fit))]
 pub fn texts_fit(limits: TextLimits, counts: TextCounts, k: usize, off: usize, on: usize) -> bool
     requires { (counts.slots ≤ limits.slots) × (counts.bytes ≤ limits.bytes) × (off ≤ counts.bytes) }
     ensures { result ≡ counts_fit limits counts k off on }
@@ -60,8 +66,5 @@ pub fn texts_fit(limits: TextLimits, counts: TextCounts, k: usize, off: usize, o
         return false;
     }
     let room = limits.slots - counts.slots;
-    if k <= room {
-        return true;
-    }
-    k - room <= counts.free
+    k <= room || k - room <= counts.free
 }

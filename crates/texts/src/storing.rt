@@ -1,6 +1,5 @@
 // Storing and replacing a text.
 ghost use Rattle.std.specs.Prelude.{◌≡◌, true, ◌+◌, ◌≤◌, ◌<◌, length};
-ghost use Rattle.words.specs.Parts.{part, put};
 ghost use Rattle.words.specs.Ends.{length_of};
 ghost use Rattle.texts.specs.Pool.{slots_for};
 ghost use Rattle.texts.specs.Words.{start_at, Counted, PoolHeld, counts_fit, Movable, ends_moved, roomed, rewritten, StoredTo, ReplacedTo};
@@ -9,43 +8,21 @@ use crate::{TextCounts, TextLimits};
 use words::TextSlot;
 use words::ends::{Place, piece_start};
 
-// What a text field holds: nothing for a text stored empty.
-#[derive(Clone, Copy)]
-pub enum TextField {
-    Nothing,
-    Slot(TextSlot),
-}
-
-// The field of a stored text, and the counts after.
+// The slot of a stored text, none for one stored empty, and the counts after.
 #[derive(Clone, Copy)]
 pub struct Stored {
-    pub field: TextField,
+    pub field: Option<TextSlot>,
     pub counts: TextCounts,
 }
 
-// Moves n words from index from to index to. Where they are there already, none is written.
-pub fn shift(words: &mut [u64], from: usize, n: usize, to: usize)
-    requires { (from + n ≤ length words.old) × (to + n ≤ length words.old) }
-    ensures { words.new ≡ put to (part from n words.old) words.old }
-{
-    if from < to {
-        words::pieces::copy_backward(words, from, n, to);
-        return;
-    }
-    if to < from {
-        words::copy(words, from, n, to);
-    }
-}
-
+// Stays: the words to write are no `TextPool`: with `&mut` words each writer has two clauses more, and who lends them must prove by names of the check's own.
 // Moves n ends from an index on, for a text that has len bytes in place of old.
 fn move_ends(words: &mut [u64], at: usize, n: usize, old: usize, len: usize)
     requires { Movable words.old at n old len }
     ensures { words.new ≡ ends_moved words.old at n old len }
 {
-    let mut k = 0;
-    while k < n {
-        words[at + k] = words[at + k] - old as u64 + len as u64;
-        k += 1;
+    for end in &mut words[at..at + n] {
+        *end = *end - old as u64 + len as u64;
     }
 }
 
@@ -62,14 +39,13 @@ fn make_room(
     ensures value { result ≡ record { start = start_at limits words.old slot.0; len = length_of words.old slot.0 } }
     ensures words_after { words.new ≡ roomed limits counts words.old slot.0 len }
 {
-    let number = slot.0;
-    let s = number as usize;
-    let used = counts.bytes;
-    let start = piece_start(&words[..], s) as usize;
+    let s = slot.0 as usize;
+    let start = piece_start(words, s) as usize;
     let old = words[s] as usize - start;
-    let at = limits.slots + limits.slots + start;
+    let base = limits.slots + limits.slots;
+    let at = base + start;
     if old != len {
-        shift(words, at + old, used - start - old, at + len);
+        words.copy_within(at + old..base + counts.bytes, at + len);
         move_ends(words, s, counts.slots - s, old, len);
     }
     Place {
@@ -104,11 +80,14 @@ fn reuse_slot(words: &mut [u64], limits: TextLimits, counts: TextCounts, text: &
     let top = words[limits.slots + free];
     let slot = TextSlot(top as u32);
     put_text(words, limits, counts, slot, text);
-    let slots = counts.slots;
     let bytes = counts.bytes + text.len();
     Stored {
-        field: TextField::Slot(slot),
-        counts: TextCounts { slots, free, bytes },
+        field: Some(slot),
+        counts: TextCounts {
+            free,
+            bytes,
+            ..counts
+        },
     }
 }
 
@@ -125,11 +104,11 @@ fn new_slot(words: &mut [u64], limits: TextLimits, counts: TextCounts, text: &[u
     words::pieces::write_bytes(words, at, text);
     let slots = made + 1;
     Stored {
-        field: TextField::Slot(TextSlot(made as u32)),
+        field: Some(TextSlot(made as u32)),
         counts: TextCounts {
             slots,
-            free: 0,
             bytes,
+            ..counts
         },
     }
 }
@@ -139,9 +118,9 @@ pub fn store_text(words: &mut [u64], limits: TextLimits, counts: TextCounts, tex
     requires { PoolHeld limits counts words.old × (counts_fit limits counts (slots_for text.now) 0 (length text.now) ≡ true) × (limits.slots ≤ 4294967296) }
     ensures { StoredTo limits counts words.old words.new text.now result }
 {
-    if text.len() == 0 {
+    if text.is_empty() {
         return Stored {
-            field: TextField::Nothing,
+            field: None,
             counts,
         };
     }
@@ -163,8 +142,6 @@ pub fn replace_text(
     ensures { ReplacedTo limits counts words.old words.new slot.0 text.now result }
 {
     let old = put_text(words, limits, counts, slot, text);
-    let slots = counts.slots;
-    let free = counts.free;
     let bytes = counts.bytes - old + text.len();
-    TextCounts { slots, free, bytes }
+    TextCounts { bytes, ..counts }
 }

@@ -1,7 +1,7 @@
 -- Start's contract can be met: the first words of the memory made zero are a fresh document.
 -- Assumes nothing.
 use mathlib.Core.Path.{◌≡◌, refl, sym, ap, ◌∙◌}
-use mathlib.Core.Bool.{Bool, true, false, ◌&&◌, true≢false, false≢true}
+use mathlib.Core.Bool.{true, false, ◌&&◌, true≢false, false≢true}
 use mathlib.Core.List.{List, ◌++◌}
 use Prim.Native.Nat.{ℕ, ◌-◌, ◌≤◌, ◌<◌}
 use native.Mathlib.Omega.{arith}
@@ -12,6 +12,9 @@ use borrow.Author.Tests.{leb-true}
 use Rattle.words.proofs.Tests.{and_left, and_right}
 use Rattle.model.specs.Doc.{limits_ok}
 use Rattle.model.specs.Calls.{done, refused}
+use Rattle.model.specs.Refusals.{number_of}
+use Rattle.model.specs.declared.Refusal.{Refusal}
+use Rattle.model.specs.declared.Refusal.TheVariants.{BadBuffers}
 use Rattle.layout.specs.declared.Document.{Document}
 use Rattle.layout.specs.declared.Limits as given
 use Rattle.layout.specs.Layout.{limits_of, document_words, memory_ok}
@@ -52,38 +55,33 @@ module _ (l : given.Limits) (mem : List ℕ) where
         beyond = drop_at (replicate N 0) (drop N mem) N (length-replicate N 0);
       }
 
--- ---- by the code's tests
+-- ---- by test 4 of the record
 
-module _ (l : given.Limits) (mem : List ℕ) (d : Document) (laid : d ≡ fresh_record l) (t : Bool) (tested : t ≡ memory_ok d (length mem)) where
-  is-startable : t ≡ startable l (length mem)
+module _ (l : given.Limits) (mem : List ℕ) (d : Document) (laid : d ≡ fresh_record l) where
+  is-startable : memory_ok d (length mem) ≡ startable l (length mem)
   unfolding startable memory_ok
-  is-startable = tested ∙ ap (λ (x : Document). limits_ok (limits_of x.limits) && leb (document_words (limits_of x.limits)) (length mem)) laid
+  is-startable = ap (λ (x : Document). limits_ok (limits_of x.limits) && leb (document_words (limits_of x.limits)) (length mem)) laid
 
-  pub not-started : t ≡ false → (r : Document) → Starts l mem (refused 4) r mem
-  not-started f r = start-refused l mem (sym is-startable ∙ f) r
+  pub not-started : (why : Refusal) → (memory_ok d (length mem) ≡ false) × (why ≡ BadBuffers) → (r : Document) → Starts l mem (refused (number_of why)) r mem
+  not-started why f r = rw f.1 (start-refused l mem (sym is-startable ∙ f.0) r)
 
-  module _ (y : t ≡ true) where
+  module _ (y : memory_ok d (length mem) ≡ true) where
     pub limits-right : limits_ok (limits_of l) ≡ true
     unfolding startable
     limits-right = and_left (limits_ok (limits_of l)) (leb (document_words (limits_of l)) (length mem)) (sym is-startable ∙ y)
 
-    module _ (end : ℕ) (e : end ≡ document_words (limits_of l)) where
-      pub words_inside : (0 < end) × (end ≤ length mem)
-      unfolding startable document_words
-      words_inside =
-          let nodes : 0 < l.nodes = (limits-fit (limits_of l) limits-right).some-node in
-          let long : document_words (limits_of l) ≤ length mem =
-          leb-true _ _ (and_right (limits_ok (limits_of l)) (leb (document_words (limits_of l)) (length mem)) (sym is-startable ∙ y)) in
-          (omega arith, omega arith)
+    pub words_inside : (0 < document_words (limits_of l)) × (document_words (limits_of l) ≤ length mem)
+    unfolding startable document_words
+    words_inside =
+        let nodes : 0 < l.nodes = (limits-fit (limits_of l) limits-right).some-node in
+        let long : document_words (limits_of l) ≤ length mem =
+        leb-true _ _ (and_right (limits_ok (limits_of l)) (leb (document_words (limits_of l)) (length mem)) (sym is-startable ∙ y)) in
+        (omega arith, long)
 
-      pub words-cleared : (part : List ℕ) → part ≡ replicate (length (take (end - 0) (drop 0 mem))) 0 → Starts l mem done d (part ++ drop (end - 0) (drop 0 mem))
-      words-cleared part q =
-          let k : end - 0 ≡ document_words (limits_of l) = omega arith in
-          let size : length (take (end - 0) mem) ≡ document_words (limits_of l) = length-take-le (end - 0) mem (omega (arith, words_inside.1)) ∙ k in
-          let m : part ++ drop (end - 0) mem ≡ zeroed l mem =
-          ap (λ (x : List ℕ). x ++ drop (end - 0) mem) (q ∙ ap (λ (n : ℕ). replicate n 0) size)
-          ∙ ap (λ (n : ℕ). replicate (document_words (limits_of l)) 0 ++ drop n mem) k in
-          rw (m, laid) (start-done l mem (sym is-startable ∙ y))
+    pub words-cleared : (end : ℕ) → end ≡ document_words (limits_of l) → (part : List ℕ) → part ≡ replicate (length (take end mem)) 0 → Starts l mem done d (part ++ drop end mem)
+    words-cleared end e part q =
+        let size : length (take end mem) ≡ document_words (limits_of l) = length-take-le end mem (omega (arith, words_inside.1)) ∙ e in
+        rw (q, size, e, laid) (start-done l mem (sym is-startable ∙ y))
 
 -- ---- an example: the least limits
 

@@ -1,8 +1,8 @@
 -- Zero words are a fresh document, whatever its limits.
 -- Assumes nothing.
+use Rattle.std.specs.Prelude.{None, Some}
 use mathlib.Core.Path.{◌≡◌, refl, sym, ap, ◌∙◌}
 use mathlib.Core.Bool.{true}
-use mathlib.Core.Option.{none, some}
 use mathlib.Core.List.{List, [], ◌∷◌, ◌++◌, reverse}
 use Prim.Native.Nat.{ℕ, zero, suc, ◌+◌, ◌*◌, ◌≤◌, ◌<◌, min}
 use native.Mathlib.Numerals.{add-one}
@@ -17,7 +17,6 @@ use Rattle.words.proofs.Parts.{part_none, replicate-snoc}
 use Rattle.blocks.specs.Arena.{block, arena_of, fresh_arena}
 use Rattle.slots.specs.Regions.{slots_words, generation_at, free_at, node_at, order_at}
 use Rattle.records.specs.Records.{zero_root}
-use Rattle.records.specs.declared.Loaded.TheVariants.{Found}
 use Rattle.words.proofs.Lists.{part-replicate}
 use Rattle.slots.proofs.Regions.{generation_at-zero, order_at-zero, node_at-zero}
 use Rattle.texts.specs.Words.{text_shown}
@@ -89,7 +88,7 @@ module _ (l : given.Limits) (ok : limits_ok (limits_of l) ≡ true) (mem : List 
   generation : generation_at n w 0 ≡ 0
   generation = ap (λ (x : List ℕ). generation_at n x 0) slots-zero ∙ generation_at-zero n (slots_words n) (omega arith) 0 some-node
 
-  loaded : loaded_at n w 0 ≡ Found zero_root
+  loaded : loaded_at n w 0 ≡ Some zero_root
   loaded =
       rw generation (ap (λ (x : List ℕ). node_at n x 0) slots-zero ∙ node_at-zero n (slots_words n) (omega arith) 0 some-node)
 
@@ -138,8 +137,8 @@ module _ (l : given.Limits) (ok : limits_ok (limits_of l) ≡ true) (mem : List 
       (limits_of l)
       (column (generation_at n w) 0 generation i)
       (ap (λ (k : ℕ). reverse (tabulate (free_at n w) k)) (no-count n) i)
-      (column (λ s. kind_loaded (loaded_at n w s)) (some root) (ap kind_loaded loaded) i)
-      (column (λ s. parent_loaded (loaded_at n w s)) none (ap parent_loaded loaded) i)
+      (column (λ s. kind_loaded (loaded_at n w s)) (Some root) (ap kind_loaded loaded) i)
+      (column (λ s. parent_loaded (loaded_at n w s)) None (ap parent_loaded loaded) i)
       (λ a. column (λ s. range_loaded a (loaded_at n w s)) (block 0 0) (range a) i)
       (λ a. arenas-zero a i)
       (orders i)

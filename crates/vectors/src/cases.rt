@@ -1,112 +1,67 @@
-// Cases by their number: what each check must answer.
-use chars::Check;
+// Cases in a list of bytes: what a check must answer to each.
+use chars::Fault;
 use productions::checks as rules;
 
-// Which check a case is for.
-#[derive(Clone, Copy)]
-pub enum Kind {
-    Utf8,
-    Name,
-    RootText,
-    Attribute,
-    Prefix,
-    Namespace,
-    Binding,
-    Text,
-    Stored,
-    Literal,
-    Comment,
-    Target,
-    PiData,
-}
-
 // Document 01's number of an answer.
-pub fn number_of(check: Check) -> u8 {
-    match check {
-        Check::Passed => 0,
-        Check::NotUtf8 => 1,
-        Check::InvalidName => 2,
-        Check::InvalidText => 3,
+// Stays: a case holds 01's number as a digit.
+fn number_of(answer: Result<(), Fault>) -> u8 {
+    match answer {
+        Ok(()) => 0,
+        Err(Fault::NotUtf8) => 1,
+        Err(Fault::InvalidName) => 2,
+        Err(Fault::InvalidText) => 3,
     }
 }
 
-pub fn unless(refused: bool, number: u8) -> u8 {
-    if refused { number } else { 0 }
+fn ensure(holds: bool, why: Fault) -> Result<(), Fault> {
+    if holds { Ok(()) } else { Err(why) }
 }
 
-fn number_of_name(s: &[u8]) -> u8 {
-    if !rules::is_utf8(s) {
-        return 1;
+pub fn check_utf8(s: &[u8]) -> Result<(), Fault> {
+    ensure(rules::is_utf8(s), Fault::NotUtf8)
+}
+
+pub fn check_name(s: &[u8]) -> Result<(), Fault> {
+    check_utf8(s)?;
+    ensure(rules::is_ncname(s), Fault::InvalidName)
+}
+
+pub fn check_attribute(s: &[u8]) -> Result<(), Fault> {
+    ensure(!rules::is_xmlns(s), Fault::InvalidName)
+}
+
+pub fn check_root_text(s: &[u8]) -> Result<(), Fault> {
+    rules::check_text(s)?;
+    ensure(rules::is_white_space(s), Fault::InvalidText)
+}
+
+// The bytes as a stored text, one a word. A case has no more, since one byte counts them.
+pub fn check_stored(s: &[u8]) -> Result<(), Fault> {
+    let mut words = [0u64; 255];
+    for (word, byte) in words.iter_mut().zip(s) {
+        *word = u64::from(*byte);
     }
-    unless(!rules::is_ncname(s), 2)
-}
-
-fn number_of_root_text(s: &[u8]) -> u8 {
-    let number = number_of(rules::check_text(s));
-    if number != 0 {
-        return number;
-    }
-    unless(!rules::is_white_space(s), 3)
-}
-
-// The bytes as a stored text, one a word.
-fn number_of_stored(s: &[u8]) -> u8 {
-    let mut words = [0u64; 16];
-    let mut n = 0;
-    while n < s.len() {
-        if 16 <= n {
-            return 9;
-        }
-        words[n] = wide(s[n]);
-        n += 1;
-    }
-    number_of(rules::check_text_words(&words[..n]))
-}
-
-fn wide(byte: u8) -> u64 {
-    byte as u64
-}
-
-fn number(kind: Kind, s: &[u8]) -> u8 {
-    match kind {
-        Kind::Utf8 => unless(!rules::is_utf8(s), 1),
-        Kind::Name => number_of_name(s),
-        Kind::RootText => number_of_root_text(s),
-        Kind::Attribute => unless(rules::is_xmlns(s), 2),
-        Kind::Prefix => number_of(rules::check_prefix(s)),
-        Kind::Namespace => number_of(rules::check_namespace(s)),
-        Kind::Binding => number_of(rules::check_namespace_binding(s)),
-        Kind::Text => number_of(rules::check_text(s)),
-        Kind::Stored => number_of_stored(s),
-        Kind::Literal => number_of(rules::check_literal(s)),
-        Kind::Comment => number_of(rules::check_comment(s)),
-        Kind::Target => number_of(rules::check_pi(s, b"")),
-        Kind::PiData => number_of(rules::check_pi(b"p", s)),
-    }
+    rules::check_text(&words[..s.len().min(words.len())])
 }
 
 // A digit, or what follows the digits in ASCII, as a number.
 fn digit(byte: u8) -> u8 {
-    if byte < 48 { 0 } else { byte - 48 }
+    byte.saturating_sub(b'0')
 }
 
 // Whether each case has the number that it must have. A case is that number and the count of bytes, each as a digit, and the bytes.
-pub fn agree(kind: Kind, cases: &[u8]) -> bool {
-    let mut i = 0;
-    while i < cases.len() {
-        let from = i + 2;
-        if cases.len() < from {
+pub fn agree<F: Fn(&[u8]) -> Result<(), Fault>>(check: F, cases: &[u8]) -> bool
+    requires { F.IsAlwaysCallable check }
+{
+    let mut rest = cases;
+    while let [right, count, after @ ..] = rest {
+        let Some((case, next)) = after.split_at_checked(usize::from(digit(*count))) else {
+            return false;
+        };
+        if number_of(check(case)) != digit(*right) {
             return false;
         }
-        let n = digit(cases[i + 1]) as usize;
-        if cases.len() - from < n {
-            return false;
-        }
-        let to = from + n;
-        if number(kind, &cases[from..to]) != digit(cases[i]) {
-            return false;
-        }
-        i = to;
+        rest = next;
     }
-    true
+    rest.is_empty()
 }

@@ -8,9 +8,8 @@ use native.Mathlib.Omega.{arith}
 use lib.ListN.{length}
 use lib.Dec.{eqb}
 use borrow.Author.Tests.{ne_eqb}
-use Rattle.chars.specs.declared.Check.{Check}
 use Rattle.chars.specs.Classes.{class_of, is_nc_name}
-use Rattle.chars.specs.Checks.{number_of, on_text, on_texts, of_text, check_text, check_comment, check_pi, check_prefix, check_namespace, check_namespace_binding, is_white_space}
+use Rattle.chars.specs.Checks.{Check, number_of, on_text, on_texts, of_text, check_text, check_comment, check_pi, check_prefix, check_namespace, check_namespace_binding, is_white_space}
 use Rattle.chars.specs.Checks as text
 use Rattle.model.specs.Arguments.{refuse_if, first, is_utf8, not_utf8, name_check, namespace_check, prefix_check, binding_check, is_xmlns, text_check, comment_check, instruction_check, space_only}
 use Rattle.model.specs.Checks.{text_under, is_empty, undeclares_prefix}

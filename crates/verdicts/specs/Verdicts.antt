@@ -1,13 +1,12 @@
 -- What a plan answers, as 01's number: 0 where the call is accepted.
-use Rattle.std.specs.Prelude.{ℕ}
+use Rattle.std.specs.Prelude.{Result, Ok, Err, ℕ}
+use Rattle.model.specs.declared.Refusal.{Refusal}
 use Rattle.model.specs.Refusals.{number_of}
 use Rattle.model.specs.Calls.{Answered, refused, done, made, truth, node, listed, every_node, kind_is, name_is, key, keys}
-use Rattle.verdicts.specs.declared.verdict.Verdict.{Verdict}
-use Rattle.verdicts.specs.declared.verdict.Verdict.TheVariants.{Accepted, Refused}
 
-abbrev pub verdict_number : Verdict → ℕ
-verdict_number Accepted = 0
-verdict_number (Refused why) = number_of why
+abbrev pub verdict_number : {T : Type 0} → Result T Refusal → ℕ
+verdict_number (Ok x) = 0
+verdict_number (Err why) = number_of why
 
 -- the number of a call's answer: 0 where it is no refusal
 abbrev pub refusal_number : Answered → ℕ

@@ -1,64 +1,35 @@
-// What a plan answers, and the first refusal of two tests.
-ghost use Rattle.std.specs.Prelude.{◌≡◌, eqb};
+// What a plan answers: Ok, or the first refusal of its tests.
+ghost use Rattle.std.specs.Prelude.{◌≡◌};
 ghost use Rattle.chars.specs.Checks as chars;
 ghost use Rattle.model.specs.Refusals.{number_of};
-ghost use Rattle.model.specs.Arguments.{refuse_if, first};
+ghost use Rattle.model.specs.Arguments.{refuse_if};
 ghost use Rattle.model.specs.Calls.{full_unless};
 ghost use Rattle.verdicts.specs.Verdicts.{verdict_number};
 
-use chars::Check;
+use chars::Fault;
 use model::Refusal;
 
-#[derive(Clone, Copy)]
-pub enum Verdict {
-    Accepted,
-    Refused(Refusal),
-}
-
 // A refusal where the test passes.
-pub fn refuse_if(test: bool, why: Refusal) -> Verdict
+pub fn refuse_if(test: bool, why: Refusal) -> Result<(), Refusal>
     ensures { verdict_number result ≡ refuse_if test (number_of why) }
 {
-    if test {
-        Verdict::Refused(why)
-    } else {
-        Verdict::Accepted
-    }
-}
-
-// The first refusal of two.
-pub fn first(a: Verdict, b: Verdict) -> Verdict
-    ensures { verdict_number result ≡ first (verdict_number a) (verdict_number b) }
-{
-    match a {
-        Verdict::Accepted => b,
-        Verdict::Refused(_) => a,
-    }
-}
-
-pub fn is_accepted(verdict: Verdict) -> bool
-    ensures { result ≡ eqb (verdict_number verdict) 0 }
-{
-    match verdict {
-        Verdict::Accepted => true,
-        Verdict::Refused(_) => false,
-    }
+    if test { Err(why) } else { Ok(()) }
 }
 
 // What a check of bytes answers.
-pub fn of_check(check: Check) -> Verdict
+pub fn of_check(check: Result<(), Fault>) -> Result<(), Refusal>
     ensures { verdict_number result ≡ chars.number_of check }
 {
     match check {
-        Check::Passed => Verdict::Accepted,
-        Check::NotUtf8 => Verdict::Refused(Refusal::NotUtf8),
-        Check::InvalidName => Verdict::Refused(Refusal::InvalidName),
-        Check::InvalidText => Verdict::Refused(Refusal::InvalidText),
+        Ok(()) => Ok(()),
+        Err(Fault::NotUtf8) => Err(Refusal::NotUtf8),
+        Err(Fault::InvalidName) => Err(Refusal::InvalidName),
+        Err(Fault::InvalidText) => Err(Refusal::InvalidText),
     }
 }
 
 // Full, asked last.
-pub fn full_unless(fits: bool) -> Verdict
+pub fn full_unless(fits: bool) -> Result<(), Refusal>
     ensures { verdict_number result ≡ full_unless fits }
 {
     refuse_if(!fits, Refusal::Full)

@@ -1,3 +1,4 @@
+pub mod Stacks
 pub mod Distinct
 pub mod Visits
 pub mod Orders
@@ -6,4 +7,3 @@ pub mod Numbering
 pub mod Walkable
 pub mod Renewing
 pub mod Cleared
-pub mod Pushing

@@ -2,14 +2,13 @@
 -- Assumes nothing.
 use mathlib.Core.Path.{◌≡◌, refl, sym, ap, ◌∙◌, subst}
 use mathlib.Core.Bool.{true}
-use mathlib.Core.List.{List, [], ◌∷◌, ◌++◌, reverse, reverse-cons, Memᴰ}
-use Prim.Native.Nat.{ℕ, zero, suc, ◌+◌, ◌-◌, ◌≤◌, ◌<◌}
+use mathlib.Core.List.{List, [], ◌∷◌, ◌++◌, Memᴰ}
+use Prim.Native.Nat.{ℕ, zero, suc, ◌+◌, ◌≤◌, ◌<◌}
 use native.Mathlib.Omega.{arith}
 use native.Mathlib.Numerals.{add-one}
-use lib.ListN.{length, get_or, set, drop, length-drop, length-reverse}
-use lib.Seq.{drop-length, drop-cons}
-use Rattle.words.specs.Parts.{part, put}
-use Rattle.words.proofs.Parts.{length_part, get_or-part, part_none, part-snoc, set-put-after, put-nil}
+use lib.ListN.{length, get_or}
+use Rattle.words.specs.Parts.{part}
+use Rattle.words.proofs.Parts.{length_part, get_or-part, part_none, part-snoc}
 use Rattle.blocks.specs.Arena.{Block, list_of}
 use Rattle.records.specs.Handles.{handle_index}
 use Rattle.records.specs.declared.Range.{Range}
@@ -31,28 +30,6 @@ mem-get_or [] i a h = absurd (omega arith)
 mem-get_or (x ∷ l) zero a h = Memᴰ.head refl
 mem-get_or (x ∷ l) (suc i) a h = Memᴰ.tail (mem-get_or l i a (omega arith))
 
--- entries pushed from the last on
-pub pushed_none : (s e : List ℕ) (p : ℕ) → s ≡ put p (reverse (drop (length e) e)) s
-pushed_none s e p = sym (ap (λ (x : List ℕ). put p (reverse x) s) (drop-length e) ∙ put-nil s p [])
-
-pub pushed-next : (s e t : List ℕ) (p left top : ℕ) → 0 < left → left ≤ length e → top + left ≡ p + length e → p + length e ≤ length s
-    → t ≡ put p (reverse (drop left e)) s → set t top (get_or e (left - 1) 0) ≡ put p (reverse (drop (left - 1) e)) s
-pushed-next s e t p zero top a b q f k = absurd (omega arith)
-pushed-next s e t p (suc m) top a b q f k =
-    let v = get_or e m 0 in
-    let size : length (reverse (drop (suc m) e)) ≡ length e - suc m = length-reverse (drop (suc m) e) ∙ length-drop (suc m) e in
-    let at : top ≡ p + length (reverse (drop (suc m) e)) = omega arith in
-    let z : suc m - 1 ≡ m = omega arith in
-    rw z
-    (ap (λ (x : List ℕ). set x top v) k
-    ∙ ap (λ (i : ℕ). set (put p (reverse (drop (suc m) e)) s) i v) at
-    ∙ set-put-after s p (reverse (drop (suc m) e)) v (omega arith)
-    ∙ ap (λ (x : List ℕ). put p x s) (sym (ap reverse (drop-cons e m 0 (omega arith)) ∙ reverse-cons v (drop (suc m) e))))
-
-pub pushed-all : (s e t : List ℕ) (p left : ℕ) → left ≤ 0 → t ≡ put p (reverse (drop left e)) s → t ≡ put p (reverse e) s
-pushed-all s e t p zero h k = k
-pushed-all s e t p (suc m) h k = absurd (omega arith)
-
 -- ---- the block of a slot
 
 module _ (d : Document) (mem : List ℕ) (w : Which) (s : ℕ) where
@@ -67,6 +44,22 @@ module _ (d : Document) (mem : List ℕ) (w : Which) (s : ℕ) where
       let b : r.len ≡ (range_in (decode d mem) w s).len = ap (λ (b : Block). b.len) q in
       let i = h.inside in
       record { inside = omega arith; list = sym (ap (list_of (arena_in d w mem)) q) }
+
+  -- the list is short, and its words lie in the memory behind one another
+  pub record Within (start len : ℕ) : Type 0 where
+    pub inside : start + len ≤ length mem
+    pub narrow : start + len < 4294967296
+    pub short : len ≤ 262144
+
+  pub list-within : ListHeld d mem w s → (r : Range) → block_of r ≡ range_in (decode d mem) w s → (first : ℕ) → first ≡ arena_at (limits_of d.limits) w → Within (first + r.start) r.len
+  list-within h r q first f =
+      let z = sizes d (length mem) h.memory in
+      let i = (block_read h r q).inside in
+      record {
+        inside = omega (arith, z.arena w);
+        narrow = omega (arith, z.narrow w);
+        short = omega (arith, z.entries w);
+      }
 
   -- the words that are shown for it
   pub list-shown : (r : Range) → block_of r ≡ range_in (decode d mem) w s → (l : List ℕ) → l ≡ list_of (arena_in d w mem) (block_of r) → l ≡ list_in (decode d mem) w s

@@ -1,5 +1,7 @@
 -- The order words replaced: what the document is then, and keys written one list after another.
 -- Assumes nothing.
+use Rattle.records.specs.declared.Node.{Node}
+use Rattle.std.specs.Prelude.{Option}
 use mathlib.Core.Path.{◌≡◌, refl, sym, ap, ◌∙◌}
 use mathlib.Core.Bool.{Bool, true}
 use mathlib.Core.List.{List, [], ◌∷◌, ◌++◌, reverse}
@@ -14,7 +16,6 @@ use Rattle.words.proofs.Lists.{tabulate-same}
 use Rattle.records.specs.Handles.{handle_index}
 use Rattle.records.specs.Records.{read_record}
 use Rattle.slots.specs.Regions.{order_start, record_start, generation_at, free_at, record_at, order_at, put_order}
-use Rattle.records.specs.declared.Loaded.{Loaded}
 use Rattle.slots.proofs.Regions.{node_at-record_at}
 use Rattle.model.specs.Kinds.{Which, children}
 use Rattle.model.specs.Doc.{Doc, change_slots, change_nodes, change_arenas, change_order}
@@ -111,7 +112,7 @@ module _ (d : Document) (mem : List ℕ) (ok : memory_ok d (length mem) ≡ true
     loaded-kept : (s : ℕ) → s < n → loaded_at n (slots_part d (put_orders d o mem)) s ≡ loaded_at n (slots_part d mem) s
     loaded-kept s h = rw (generation-kept s h, node_at-record_at n (slots_part d (put_orders d o mem)) (slots_part d mem) s s (record-kept s h))
 
-    column-kept : {A : Type 0} (f : Loaded → A) → tabulate (λ s. f (loaded_at n (slots_part d (put_orders d o mem)) s)) (slots_made d) ≡ tabulate (λ s. f (loaded_at n (slots_part d mem) s)) (slots_made d)
+    column-kept : {A : Type 0} (f : Option Node → A) → tabulate (λ s. f (loaded_at n (slots_part d (put_orders d o mem)) s)) (slots_made d) ≡ tabulate (λ s. f (loaded_at n (slots_part d mem) s)) (slots_made d)
     column-kept f = tabulate-same (λ s. f (loaded_at n (slots_part d (put_orders d o mem)) s)) (λ s. f (loaded_at n (slots_part d mem) s)) (slots_made d) (λ s h. ap f (loaded-kept s (omega arith)))
 
     behind-kept : (at k : ℕ) → 15 * n ≤ at → part at k (put_orders d o mem) ≡ part at k mem

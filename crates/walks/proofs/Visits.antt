@@ -1,8 +1,9 @@
 -- A walk with a stack that visits each node once: what was visited and what is on the stack are distinct, so that the stack has room.
 -- Assumes nothing.
+use Rattle.std.proofs.lemmas.Option.{same_Some}
+use Rattle.std.specs.Prelude.{Option, Some}
 use mathlib.Core.Path.{◌≡◌, refl, sym, ◌∙◌, subst}
 use mathlib.Core.Logic.{◌⊎◌, inl, inr}
-use mathlib.Core.Option.{Option, some, some-injective}
 use mathlib.Core.List.Memᴰ
 use mathlib.Core.List.{List, [], ◌∷◌, ◌++◌, map, Memᴰ}
 use Prim.Native.Nat.{ℕ, ◌+◌, ◌≤◌, ◌<◌}
@@ -16,7 +17,7 @@ module _ (next : ℕ → List ℕ) (Live : ℕ → Type 0) (parent : ℕ → Opt
   module _ (Top : ℕ → Type 0) where
     -- what follows a node has it as parent, each once, and is no top
     pub record Branching : Type 0 where
-      pub child : (x c : ℕ) → Live x → Memᴰ c (next x) → Live c × (parent c ≡ some x) × (Top c → ⊥)
+      pub child : (x c : ℕ) → Live x → Memᴰ c (next x) → Live c × (parent c ≡ Some x) × (Top c → ⊥)
       pub once : (x : ℕ) → Live x → Distinct (next x)
 
     -- the top of the stack stands first; what was met is a top, or follows a node that was visited
@@ -27,7 +28,7 @@ module _ (next : ℕ → List ℕ) (Live : ℕ → Type 0) (parent : ℕ → Opt
       pub stack-once : Distinct stack
       pub apart : (y : ℕ) → Memᴰ y visited → Memᴰ y stack → ⊥
       pub live : (y : ℕ) → Memᴰ y visited ⊎ Memᴰ y stack → Live y
-      pub pushed : (y : ℕ) → Memᴰ y visited ⊎ Memᴰ y stack → Top y ⊎ ((p : ℕ) × Memᴰ p visited × (parent y ≡ some p))
+      pub pushed : (y : ℕ) → Memᴰ y visited ⊎ Memᴰ y stack → Top y ⊎ ((p : ℕ) × Memᴰ p visited × (parent y ≡ Some p))
       pub closed : (x y : ℕ) → Memᴰ x visited → Memᴰ y (next x) → Memᴰ y visited ⊎ Memᴰ y stack
 
     pub visiting-none : VisitingFrom 0 []
@@ -54,13 +55,13 @@ module _ (next : ℕ → List ℕ) (Live : ℕ → Type 0) (parent : ℕ → Opt
       fresh : (y : ℕ) → Memᴰ y (next x) → Memᴰ y v.visited ⊎ Memᴰ y (x ∷ s) → ⊥
       fresh y m o = go (v.pushed y o)
         where
-          c : Live y × (parent y ≡ some x) × (Top y → ⊥)
+          c : Live y × (parent y ≡ Some x) × (Top y → ⊥)
           c = n.child x y lx m
 
-          go : Top y ⊎ ((p : ℕ) × Memᴰ p v.visited × (parent y ≡ some p)) → ⊥
+          go : Top y ⊎ ((p : ℕ) × Memᴰ p v.visited × (parent y ≡ Some p)) → ⊥
           go (inl e) = c.2 e
           go (inr q) =
-              let e : q.0 ≡ x = some-injective q.0 x (sym q.2 ∙ c.1) in
+              let e : q.0 ≡ x = same_Some q.0 x (sym q.2 ∙ c.1) in
               v.apart x (subst (λ (z : ℕ). Memᴰ z v.visited) e q.1) (Memᴰ.head refl)
 
       pub visited-next : VisitingFrom (1 + count) (next x ++ s)
@@ -98,11 +99,11 @@ module _ (next : ℕ → List ℕ) (Live : ℕ → Type 0) (parent : ℕ → Opt
           live-next y (inl m) = (n.child x y lx m).0
           live-next y (inr o) = v.live y o
 
-          kept : {y : ℕ} → Top y ⊎ ((p : ℕ) × Memᴰ p v.visited × (parent y ≡ some p)) → Top y ⊎ ((p : ℕ) × Memᴰ p (x ∷ v.visited) × (parent y ≡ some p))
+          kept : {y : ℕ} → Top y ⊎ ((p : ℕ) × Memᴰ p v.visited × (parent y ≡ Some p)) → Top y ⊎ ((p : ℕ) × Memᴰ p (x ∷ v.visited) × (parent y ≡ Some p))
           kept (inl e) = inl e
           kept (inr q) = inr (q.0, Memᴰ.tail q.1, q.2)
 
-          pushed-next : (y : ℕ) → Memᴰ y (next x) ⊎ (Memᴰ y v.visited ⊎ Memᴰ y (x ∷ s)) → Top y ⊎ ((p : ℕ) × Memᴰ p (x ∷ v.visited) × (parent y ≡ some p))
+          pushed-next : (y : ℕ) → Memᴰ y (next x) ⊎ (Memᴰ y v.visited ⊎ Memᴰ y (x ∷ s)) → Top y ⊎ ((p : ℕ) × Memᴰ p (x ∷ v.visited) × (parent y ≡ Some p))
           pushed-next y (inl m) = inr (x, Memᴰ.head refl, (n.child x y lx m).1)
           pushed-next y (inr o) = kept (v.pushed y o)
 
@@ -159,7 +160,7 @@ module _ (next : ℕ → List ℕ) (Live : ℕ → Type 0) (parent : ℕ → Opt
         live y (inl m) = v.live y (inl m)
         live y (inr m) = subst Live (sym (one y (Memᴰ.cases_cons m))) lt
 
-        pushed : (y : ℕ) → Memᴰ y v.visited ⊎ Memᴰ y (top ∷ []) → Top y ⊎ ((p : ℕ) × Memᴰ p v.visited × (parent y ≡ some p))
+        pushed : (y : ℕ) → Memᴰ y v.visited ⊎ Memᴰ y (top ∷ []) → Top y ⊎ ((p : ℕ) × Memᴰ p v.visited × (parent y ≡ Some p))
         pushed y (inl m) = v.pushed y (inl m)
         pushed y (inr m) = inl (subst Top (sym (one y (Memᴰ.cases_cons m))) t)
 
@@ -189,7 +190,7 @@ module _ (next : ℕ → List ℕ) (Live : ℕ → Type 0) (parent : ℕ → Opt
       closed = v.closed;
     }
       where
-        old : (y : ℕ) → Top y ⊎ ((p : ℕ) × Memᴰ p v.visited × (parent y ≡ some p)) → Top' y ⊎ ((p : ℕ) × Memᴰ p v.visited × (parent y ≡ some p))
+        old : (y : ℕ) → Top y ⊎ ((p : ℕ) × Memᴰ p v.visited × (parent y ≡ Some p)) → Top' y ⊎ ((p : ℕ) × Memᴰ p v.visited × (parent y ≡ Some p))
         old y (inl k) = inl (more y k)
         old y (inr q) = inr q
 
@@ -202,7 +203,7 @@ module _ (next : ℕ → List ℕ) (Live : ℕ → Type 0) (parent : ℕ → Opt
   -- what follows a node has it as parent, and is not the top
   pub record Nest : Type 0 where
     pub first : Live top
-    pub child : (x c : ℕ) → Live x → Memᴰ c (next x) → Live c × (parent c ≡ some x) × (c ≡ top → ⊥)
+    pub child : (x c : ℕ) → Live x → Memᴰ c (next x) → Live c × (parent c ≡ Some x) × (c ≡ top → ⊥)
     pub once : (x : ℕ) → Live x → Distinct (next x)
 
   abbrev pub Visiting : ℕ → List ℕ → Type 0

@@ -1,8 +1,9 @@
 -- What rules 4 and 5 tell a walk: what follows a node, and that its lists can be read.
 -- Assumes nothing.
+use Rattle.std.proofs.lemmas.Option.{none-some}
+use Rattle.std.specs.Prelude.{None, Some}
 use mathlib.Core.Path.{◌≡◌, refl, sym, ap, ◌∙◌, subst}
 use mathlib.Core.Bool.{Bool, true, false, cond}
-use mathlib.Core.Option.{none, some, none-ne-some}
 use mathlib.Core.Logic.{◌⊎◌, inl, inr}
 use mathlib.Core.List.Memᴰ
 use mathlib.Core.List.{List, ◌++◌, Memᴰ}
@@ -52,8 +53,8 @@ same_index D y z a b e = sym (handle-of D y a) ∙ ap (handle_at D) e ∙ handle
 
 -- the lists of a node have it as parent, each entry once, and two of them share nothing
 module _ (D : Doc) (E : Entries D) where
-  pub parent_is : (w : Which) (x c : ℕ) → resolves D x ≡ true → Memᴰ c (list_at D w x) → parent_at D c ≡ some x
-  parent_is w x c lx m = (E.no_other w (handle_index x) c (live_of D x lx) m).1 ∙ ap some (handle-of D x lx)
+  pub parent_is : (w : Which) (x c : ℕ) → resolves D x ≡ true → Memᴰ c (list_at D w x) → parent_at D c ≡ Some x
+  parent_is w x c lx m = (E.no_other w (handle_index x) c (live_of D x lx) m).1 ∙ ap Some (handle-of D x lx)
 
   pub entry-live : (w : Which) (x c : ℕ) → resolves D x ≡ true → Memᴰ c (list_at D w x) → resolves D c ≡ true
   entry-live w x c lx m = (E.no_other w (handle_index x) c (live_of D x lx) m).0
@@ -101,15 +102,15 @@ module _ (D : Doc) (E : Entries D) where
         go y m (inr q) = lists-apart children namespaces (λ e. let z : ◌≡◌ {A = ℕ} 0 1 = cc in omega arith) x y lx m q
 
   -- a walk from a node without a parent visits each node once
-  pub nest-pushed : (top : ℕ) → resolves D top ≡ true → parent_at D top ≡ none → Nest (pushed_by D) (λ h. resolves D h ≡ true) (parent_at D) top
+  pub nest-pushed : (top : ℕ) → resolves D top ≡ true → parent_at D top ≡ None → Nest (pushed_by D) (λ h. resolves D h ≡ true) (parent_at D) top
   nest-pushed top lt e = record { first = lt; child = kid; once = λ x lx. pushed-once x lx }
     where
-      kid : (x c : ℕ) → resolves D x ≡ true → Memᴰ c (pushed_by D x) → (resolves D c ≡ true) × (parent_at D c ≡ some x) × (c ≡ top → ⊥)
+      kid : (x c : ℕ) → resolves D x ≡ true → Memᴰ c (pushed_by D x) → (resolves D c ≡ true) × (parent_at D c ≡ Some x) × (c ≡ top → ⊥)
       kid x c lx m =
           let o = pushed-which x lx c m in (
             entry-live o.0 x c lx o.1,
             parent_is o.0 x c lx o.1,
-            λ q. none-ne-some x (sym e ∙ ap (parent_at D) (sym q) ∙ parent_is o.0 x c lx o.1),
+            λ q. none-some x (sym e ∙ ap (parent_at D) (sym q) ∙ parent_is o.0 x c lx o.1),
           )
 
 -- the children of a node have it as parent, each once, and the Root is none of them
@@ -119,7 +120,7 @@ nest D W = record {
   child = λ x c lx m. (
     entry-live D W.entries children x c lx m,
     parent_is D W.entries children x c lx m,
-    λ e. none-ne-some x (sym W.top ∙ ap (parent_at D) (sym e) ∙ parent_is D W.entries children x c lx m),
+    λ e. none-some x (sym W.top ∙ ap (parent_at D) (sym e) ∙ parent_is D W.entries children x c lx m),
   );
   once = list-once D W.entries children;
 }

@@ -1,6 +1,5 @@
 -- The renewed order: keys written into the order words.
-use Rattle.std.specs.Prelude.{◌≡◌, true, ℕ, ◌+◌, ◌≤◌, ◌<◌, length, drop, replicate}
-use Rattle.std.proofs.Math.Option.{none}
+use Rattle.std.specs.Prelude.{◌≡◌, true, ℕ, ◌+◌, ◌≤◌, ◌<◌, length, drop, replicate, None}
 use mathlib.Core.List.{List, ◌∷◌, ◌++◌, Memᴰ}
 use Rattle.words.specs.Parts.{put}
 use Rattle.records.specs.Handles.{handle_index}
@@ -50,4 +49,4 @@ pub record Walkable (d : Doc) : Type 0 where
   pub entries : Entries d
   pub blocks : Blocks d
   pub root : resolves d root_handle ≡ true
-  pub top : parent_at d root_handle ≡ none
+  pub top : parent_at d root_handle ≡ None

@@ -3,3 +3,4 @@
 
 pub mod list;
 pub mod order;
+pub mod stack;

@@ -9,10 +9,10 @@ ghost use Rattle.memory.specs.Decode.{decode};
 ghost use Rattle.layout.specs.Record.{renewed};
 ghost use Rattle.walks.specs.Order.{Listed, Walkable, put_orders, put_keys, clear_keys, keyed_at};
 
-use crate::list::{list_of, push_reversed};
+use crate::list::list_of;
+use crate::stack::Stack;
 use layout::{Arena, Document, arena_at};
 use memory::fields::live_block;
-use memory::read::made;
 use words::NodeSlot;
 
 // The slot of a handle.
@@ -37,14 +37,11 @@ fn number_list(d: Document, mem: &mut [u64], slot: NodeSlot, arena: Arena, key: 
     ensures mem_after { mem.new ≡ put_keys d mem.old key (list_in (decode d mem.old) (which_of arena) slot.0) }
 {
     let block = live_block(d, &mem[..], slot, arena);
-    let first = arena_at(d.limits, arena);
-    let start = block.start as usize;
+    let start = arena_at(d.limits, arena) + block.start as usize;
     let len = block.len as usize;
-    let mut k = 0;
-    while k < len {
-        let word = mem[first + start + k];
+    for k in 0..len {
+        let word = mem[start + k];
         put_key(d, mem, word, key + k as u64);
-        k += 1;
     }
     key + len as u64
 }
@@ -62,21 +59,15 @@ fn number_node(d: Document, mem: &mut [u64], word: u64, key: u64) -> u64
 }
 
 // Keys for all that is reached from the Root, from 0 on. A node's children go on the stack, the first on top.
-fn number_tree(d: Document, mem: &mut [u64], stack: &mut [u64])
-    requires { (memory_ok d (length mem.old) ≡ true) × (d.limits.nodes ≤ length stack.old) × Walkable (decode d mem.old) }
+fn number_tree(d: Document, mem: &mut [u64], words: &mut [u64])
+    requires { (memory_ok d (length mem.old) ≡ true) × (d.limits.nodes ≤ length words.old) × Walkable (decode d mem.old) }
     ensures { mem.new ≡ put_keys d mem.old 0 (ordered (decode d mem.old)) }
 {
-    stack[0] = 0;
-    let mut height = 1;
+    let mut stack = Stack::with_word(words, 0);
     let mut key = 0;
-    let mut left = made(d);
-    while 0 < height {
-        height -= 1;
-        let word = stack[height];
+    while let Some(word) = stack.pop() {
         key = number_node(d, mem, word, key);
-        let entries = list_of(d, &mem[..], slot_of(word), Arena::Children);
-        height = push_reversed(stack, height, entries);
-        left -= 1;
+        stack.push_reversed(list_of(d, &mem[..], slot_of(word), Arena::Children));
     }
 }
 

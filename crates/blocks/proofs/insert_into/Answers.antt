@@ -1,14 +1,9 @@
 -- `blocks::insert_into` meets its contract: no room, room in place, or a move.
 -- Assumes nothing.
 use native.Mathlib.Omega.{arith}
-use Rattle.blocks.proofs.Halves.{held-len, held_fits}
+use Rattle.blocks.proofs.Halves.{held-len}
 use Rattle.blocks.proofs.Inserts.{spare-fits, moved_more, inserts-full, inserts-in-place, inserts-moved}
 use Rattle.blocks.proofs.insert_into.Goals as goal
-
-pub entries_for-more-requires : goal.entries_for-more-requires
-entries_for-more-requires c =
-    let pre = c.requires in
-    (held_fits _ _ _ _ _ pre, pre.twice)
 
 pub returns-then-limit-used : goal.returns-then-limit-used
 returns-then-limit-used c = let q = inserts-full _ _ _ _ _ c.requires _ _ _ (c.entries_for-more.ensures _) c.if-limit-used.true in
@@ -17,16 +12,11 @@ returns-then-limit-used c = let q = inserts-full _ _ _ _ _ c.requires _ _ _ (c.e
 pub insert_in_place-requires : goal.insert_in_place-requires
 insert_in_place-requires c =
     let pre = c.requires in
-    (omega (arith, c.least-index.ensures), spare-fits _ _ _ _ _ pre _ (c.entries_for-more.ensures _) c.if-more-eq0.true)
-
-pub overflow_add-result : goal.overflow_add-result
-overflow_add-result c =
-    let pre = c.requires in
-    omega (arith, held_fits _ _ _ _ _ pre, pre.twice)
+    (omega (arith, c.min-index.ensures), spare-fits _ _ _ _ _ pre _ (c.entries_for-more.ensures _) c.if-more-eq0.true)
 
 pub returns-then-more-eq0 : goal.returns-then-more-eq0
 returns-then-more-eq0 c =
-    let q = inserts-in-place _ _ _ _ _ c.requires _ _ _ (c.entries_for-more.ensures _) c.if-limit-used.false _ c.least-index.ensures c.if-more-eq0.true _ c.insert_in_place.ensures in
+    let q = inserts-in-place _ _ _ _ _ c.requires _ _ _ (c.entries_for-more.ensures _) c.if-limit-used.false _ c.min-index.ensures c.if-more-eq0.true _ c.insert_in_place.ensures in
     record { value = q.0; arena_after = q.1 }
 
 pub move_block_with-requires : goal.move_block_with-requires
@@ -34,19 +24,14 @@ move_block_with-requires c =
     let pre = c.requires in record {
       arena_len = pre.twice;
       at_le_len = (
-        omega (arith, c.least-index.ensures),
+        omega (arith, c.min-index.ensures),
         held-len _ _ _ _ _ pre,
         moved_more _ _ _ _ _ pre _ (c.entries_for-more.ensures _) c.if-more-eq0.false,
         omega (arith, c.if-limit-used.false, pre.fits),
       );
     }
 
-pub overflow_add-result-2 : goal.overflow_add-result-2
-overflow_add-result-2 c =
-    let pre = c.requires in
-    omega (arith, held_fits _ _ _ _ _ pre, pre.twice)
-
 pub returns : goal.returns
 returns c =
-    let q = inserts-moved _ _ _ _ _ c.requires _ _ _ (c.entries_for-more.ensures _) c.if-limit-used.false _ c.least-index.ensures c.if-more-eq0.false _ c.move_block_with.ensures in
+    let q = inserts-moved _ _ _ _ _ c.requires _ _ _ (c.entries_for-more.ensures _) c.if-limit-used.false _ c.min-index.ensures c.if-more-eq0.false _ c.move_block_with.ensures in
     record { value = q.0; arena_after = q.1 }

@@ -1,11 +1,10 @@
 -- `blocks::move_block_with` meets its contract: the block is copied to the end, and the id put there.
 -- Assumes nothing.
 use mathlib.Core.Path.{◌≡◌, sym, ap, ◌∙◌}
-use mathlib.Core.Logic.{inr}
 use mathlib.Core.List.{List}
 use Prim.Native.Nat.{ℕ, ◌+◌, ◌≤◌}
 use native.Mathlib.Omega.{arith}
-use lib.ListN.{length, set, replicate, length-set}
+use lib.ListN.{length, set, replicate}
 use Rattle.words.specs.Parts.{part, put}
 use Rattle.words.specs.Lists.{insert_at}
 use Rattle.words.proofs.Parts.{put-put, part-put-same, length_part}
@@ -27,20 +26,8 @@ opened l m o s n used k id hs hu e q =
 recorded : (l m o : List ℕ) (i j n v : ℕ) → l ≡ m → o ≡ put j (replicate n 0) (set l i 0) → set o j v ≡ set (put j (replicate n 0) (set m i 0)) j v
 recorded l m o i j n v e q = rw (q, e)
 
-pub copy-requires : goal.copy-requires
-copy-requires c = record { fact = inr (omega arith); n_in_bounds = omega arith }
-
-pub fill-requires : goal.fill-requires
-fill-requires c = simp length-set (omega arith)
-
-pub bounds-arena-limit-2 : goal.bounds-arena-limit-2
-bounds-arena-limit-2 c = omega (arith, simp length-set at c.fill.auto.words)
-
-pub shape_of-arena : goal.shape_of-arena
-shape_of-arena c = simp length-set (omega (arith, simp length-set at c.fill.auto.words))
-
 pub returns : goal.returns
 returns c =
-    recorded _ _ _ (c.args.limit + c.args.start) _ c.args.cap _
+    recorded _ _ _ (c.args.limit + c.args.block.start) _ c.args.cap _
     (opened _ _ _ _ _ _ _ _ (omega (arith, c.requires.arena_len, c.requires.at_le_len)) (omega (arith, c.requires.arena_len, c.requires.at_le_len)) c.copy.ensures c.insert_in_place.ensures)
     c.fill.ensures

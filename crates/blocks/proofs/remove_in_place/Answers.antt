@@ -1,14 +1,13 @@
 -- `blocks::remove_in_place` meets its contract: a copy down by one is the block without the id.
 -- Assumes nothing.
 use mathlib.Core.Path.{◌≡◌, sym, ap, ◌∙◌}
-use mathlib.Core.Logic.{inl}
 use mathlib.Core.List.{List, ◌++◌}
 use Prim.Native.Nat.{ℕ, suc, ◌+◌, ◌-◌, ◌≤◌, ◌<◌}
 use native.Mathlib.Omega.{arith}
 use lib.ListN.{length}
 use Rattle.words.specs.Parts.{part, put}
 use Rattle.words.specs.Lists.{remove_at}
-use Rattle.words.proofs.Parts.{put_front}
+use Rattle.words.proofs.Parts.{put_front, copied}
 use Rattle.words.proofs.Lists.{remove_at-part}
 use Rattle.blocks.proofs.remove_in_place.Goals as goal
 
@@ -21,8 +20,7 @@ closed l s n k h f =
     ∙ ap (λ (r : List ℕ). put s r l) (sym (remove_at-part l s k (n - k - 1)))
     ∙ ap (λ (i : ℕ). put s (remove_at k (part s i l)) l) (sym e)
 
-pub copy-requires : goal.copy-requires
-copy-requires c = record { fact = inl (omega arith); n_in_bounds = omega arith }
-
 pub returns : goal.returns
-returns c = c.copy.ensures ∙ closed _ _ _ _ (omega arith) (omega arith)
+returns c =
+    let a = c.args in
+    c.copy_within.ensures.after ∙ copied _ _ _ (a.block.len - a.at - 1) _ (omega arith) (omega arith) ∙ closed _ _ _ _ (omega arith) (omega arith)

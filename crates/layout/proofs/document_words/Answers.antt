@@ -1,28 +1,18 @@
--- `layout::document_words` meets its contract.
+-- The sums of `layout::document_words` fit.
 -- Assumes nothing.
 use native.Mathlib.Omega.{arith}
-use Rattle.layout.specs.Layout.{limits_of, texts_at, names_at, document_words}
-use Rattle.layout.proofs.Sizes.{limits-fit, words-fit}
+use Rattle.layout.specs.Layout.{texts_at, names_at}
+use Rattle.layout.proofs.Sizes.{regions_small}
 use Rattle.layout.proofs.document_words.Goals as goal
 
 pub overflow_mul-result : goal.overflow_mul-result
-unfolding texts_at names_at document_words
-overflow_mul-result c =
-    let f = limits-fit (limits_of c.args.l) c.requires in
-    omega (arith, words-fit (limits_of c.args.l) f)
+unfolding texts_at names_at
+overflow_mul-result c = omega (arith, regions_small _ c.requires)
 
 pub overflow_add-result : goal.overflow_add-result
-unfolding texts_at names_at document_words
-overflow_add-result c =
-    let f = limits-fit (limits_of c.args.l) c.requires in
-    omega (arith, words-fit (limits_of c.args.l) f)
+unfolding texts_at names_at
+overflow_add-result c = omega (arith, regions_small _ c.requires)
 
 pub overflow_add-result-2 : goal.overflow_add-result-2
-unfolding texts_at names_at document_words
-overflow_add-result-2 c =
-    let f = limits-fit (limits_of c.args.l) c.requires in
-    omega (arith, words-fit (limits_of c.args.l) f)
-
-pub returns : goal.returns
-unfolding texts_at names_at document_words
-returns c = omega arith
+unfolding texts_at names_at
+overflow_add-result-2 c = omega (arith, regions_small _ c.requires)

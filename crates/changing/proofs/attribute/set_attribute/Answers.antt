@@ -1,20 +1,19 @@
 -- `changing::attribute::set_attribute` meets its contract.
 -- Assumes nothing.
+use mathlib.Core.Path.{refl}
 use Rattle.records.specs.Handles.{word_of}
 use Rattle.model.specs.Calls.{set-attribute}
-use Rattle.editing.proofs.Editing.{opened, undamaged, not-admitted, edits}
+use Rattle.editing.proofs.Editing.{passed_on, unadmitted, unplanned, admits, performs}
 use Rattle.changing.proofs.attribute.set_attribute.Goals as goal
 
-pub set_checked-requires : goal.set_checked-requires
-set_checked-requires c =
-    undamaged c.args.d c.args.mem.now c.args.scratch.now
-    (opened c.args.d c.args.mem.now c.args.scratch.now _ c.in-Accepted.is c.admit.ensures.result_value)
+pub put_attribute-requires : goal.put_attribute-requires
+put_attribute-requires c = record { admitted = admits (set-attribute (word_of c.args.element) c.args.namespace.now c.args.local.now c.args.value.now) c.args.d c.args.mem.now c.in_ok-admit.ensures.ready.undamaged c.in_ok-found.ensures.verdict_value; found_value = c.in_ok-found.ensures.found_value }
 
-pub returns-in-Refused : goal.returns-in-Refused
-returns-in-Refused c =
-    not-admitted c.args.d c.args.mem.now c.args.scratch.now (set-attribute (word_of c.args.element) c.args.namespace.now c.args.local.now c.args.value.now) _ _ c.in-Refused.is c.admit.ensures.result_value _ c.admit.ensures.scratch_after
+pub returns-in_err-admit : goal.returns-in_err-admit
+returns-in_err-admit c = rw (passed_on _ _ c.from_residual.ensures.1) (unadmitted (set-attribute (word_of c.args.element) c.args.namespace.now c.args.local.now c.args.value.now) c.args.d c.args.mem.now c.args.scratch.now _ c.in_err-admit.ensures.result_value _ c.admit.ensures.scratch_after)
 
-pub returns-in-Accepted : goal.returns-in-Accepted
-returns-in-Accepted c =
-    edits c.args.d c.args.mem.now c.args.scratch.now (set-attribute (word_of c.args.element) c.args.namespace.now c.args.local.now c.args.value.now)
-    (opened c.args.d c.args.mem.now c.args.scratch.now _ c.in-Accepted.is c.admit.ensures.result_value) _ _ _ _ c.set_checked.ensures c.admit.ensures.scratch_after
+pub returns-in_err-found : goal.returns-in_err-found
+returns-in_err-found c = rw (passed_on _ _ c.from_residual-in_err-found.ensures.1) (unplanned (set-attribute (word_of c.args.element) c.args.namespace.now c.args.local.now c.args.value.now) c.args.d c.args.mem.now c.args.scratch.now c.in_ok-admit.ensures.result_value _ c.in_err-found.ensures.verdict_value _ c.admit.ensures.scratch_after)
+
+pub returns : goal.returns
+returns c = performs (set-attribute (word_of c.args.element) c.args.namespace.now c.args.local.now c.args.value.now) c.args.d c.args.mem.now c.args.scratch.now c.in_ok-admit.ensures.result_value _ _ _ refl c.put_attribute.ensures _ c.admit.ensures.scratch_after

@@ -1,20 +1,19 @@
 -- `changing::text::set_text` meets its contract.
 -- Assumes nothing.
+use mathlib.Core.Path.{refl}
 use Rattle.records.specs.Handles.{word_of}
 use Rattle.model.specs.Calls.{set-text}
-use Rattle.editing.proofs.Editing.{opened, undamaged, not-admitted, edits}
+use Rattle.editing.proofs.Editing.{passed_on, unadmitted, unplanned, admits, performs}
 use Rattle.changing.proofs.text.set_text.Goals as goal
 
-pub set_checked-requires : goal.set_checked-requires
-set_checked-requires c =
-    undamaged c.args.d c.args.mem.now c.args.scratch.now
-    (opened c.args.d c.args.mem.now c.args.scratch.now _ c.in-Accepted.is c.admit.ensures.result_value)
+pub do_set_text-requires : goal.do_set_text-requires
+do_set_text-requires c = admits (set-text (word_of c.args.id) c.args.text.now) c.args.d c.args.mem.now c.in_ok-admit.ensures.ready.undamaged c.in_ok-plan_set_text.ensures
 
-pub returns-in-Refused : goal.returns-in-Refused
-returns-in-Refused c =
-    not-admitted c.args.d c.args.mem.now c.args.scratch.now (set-text (word_of c.args.id) c.args.text.now) _ _ c.in-Refused.is c.admit.ensures.result_value _ c.admit.ensures.scratch_after
+pub returns-in_err-admit : goal.returns-in_err-admit
+returns-in_err-admit c = rw (passed_on _ _ c.from_residual.ensures.1) (unadmitted (set-text (word_of c.args.id) c.args.text.now) c.args.d c.args.mem.now c.args.scratch.now _ c.in_err-admit.ensures.result_value _ c.admit.ensures.scratch_after)
 
-pub returns-in-Accepted : goal.returns-in-Accepted
-returns-in-Accepted c =
-    edits c.args.d c.args.mem.now c.args.scratch.now (set-text (word_of c.args.id) c.args.text.now)
-    (opened c.args.d c.args.mem.now c.args.scratch.now _ c.in-Accepted.is c.admit.ensures.result_value) _ _ _ _ c.set_checked.ensures c.admit.ensures.scratch_after
+pub returns-in_err-plan_set_text : goal.returns-in_err-plan_set_text
+returns-in_err-plan_set_text c = rw (passed_on _ _ c.from_residual-in_err-plan_set_text.ensures.1) (unplanned (set-text (word_of c.args.id) c.args.text.now) c.args.d c.args.mem.now c.args.scratch.now c.in_ok-admit.ensures.result_value _ c.in_err-plan_set_text.ensures _ c.admit.ensures.scratch_after)
+
+pub returns : goal.returns
+returns c = performs (set-text (word_of c.args.id) c.args.text.now) c.args.d c.args.mem.now c.args.scratch.now c.in_ok-admit.ensures.result_value _ _ _ refl c.do_set_text.ensures _ c.admit.ensures.scratch_after

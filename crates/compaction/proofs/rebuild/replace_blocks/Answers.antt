@@ -7,8 +7,8 @@ use Rattle.compaction.proofs.rebuild.replace_blocks.Goals as goal
 
 pub replace_blocks-requires : goal.replace_blocks-requires
 replace_blocks-requires c =
-    (c.requires.0, omega (arith, c.requires.1, c.length_in-count.ensures))
+    (c.requires.0, omega (arith, c.requires.1, c.of.ensures))
 
 pub returns : goal.returns
 returns c =
-    blocks-replaced c.args.d (which_of c.args.arena) c.args.mem.now c.args.used _ c.length_in-count.ensures _ c.replace_blocks.ensures
+    blocks-replaced c.args.d (which_of c.args.arena) c.args.mem.now c.args.used _ c.of.ensures _ c.replace_blocks.ensures

@@ -3,7 +3,6 @@
 use Rattle.compaction.proofs.Reading.{slot-in, nodes-few, word_fits, handle-read}
 use native.Mathlib.Omega.{arith}
 use lib.ListN.{length}
-use Rattle.compaction.proofs.Reading.{slot-in, nodes-few, word_fits, handle-read}
 use Rattle.compaction.proofs.trees.handle_in.Goals as goal
 
 pub generation-requires : goal.generation-requires

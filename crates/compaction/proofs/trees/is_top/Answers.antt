@@ -1,18 +1,20 @@
 -- `compaction::trees::is_top` meets its contract.
 -- Assumes nothing.
+use mathlib.Core.Path.{◌∙◌}
 use borrow.Author.Tests.{eq-eqb, ne_eqb}
 use Rattle.compaction.proofs.Reading.{even-live, top-even, top-odd}
 use Rattle.compaction.proofs.trees.is_top.Goals as goal
 
 pub has_no_parent-requires : goal.has_no_parent-requires
 has_no_parent-requires c =
-    (c.requires.0, even-live c.args.d c.args.mem.now c.args.slot.0 c.requires.1 _ c.generation.ensures c.requires.2 (eq-eqb _ _ c.if-even.true))
+    (c.requires.0, even-live c.args.d c.args.mem.now c.args.slot.0 c.requires.1 _ c.generation.ensures c.requires.2 (eq-eqb _ _ c.if-generation-eq0.true))
 
-pub returns-then-even : goal.returns-then-even
-returns-then-even c =
+pub returns-then-generation-eq0 : goal.returns-then-generation-eq0
+returns-then-generation-eq0 c =
     let a = c.args in
-    top-even a.d a.mem.now a.slot.0 c.requires.1 _ c.generation.ensures (even-live a.d a.mem.now a.slot.0 c.requires.1 _ c.generation.ensures c.requires.2 (eq-eqb _ _ c.if-even.true)) _ c.has_no_parent.ensures
+    top-even a.d a.mem.now a.slot.0 c.requires.1 _ c.generation.ensures (even-live a.d a.mem.now a.slot.0 c.requires.1 _ c.generation.ensures c.requires.2 (eq-eqb _ _ c.if-generation-eq0.true)) _ c.has_no_parent.ensures
 
-pub returns-else-even : goal.returns-else-even
-returns-else-even c =
-    top-odd c.args.d c.args.mem.now c.args.slot.0 c.requires.1 _ c.generation.ensures (ne_eqb _ _ c.if-even.false)
+pub returns-else-generation-eq0 : goal.returns-else-generation-eq0
+returns-else-generation-eq0 c =
+    let odd = ne_eqb _ _ c.if-generation-eq0.false in
+    odd ∙ top-odd c.args.d c.args.mem.now c.args.slot.0 c.requires.1 _ c.generation.ensures odd

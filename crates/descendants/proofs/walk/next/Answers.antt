@@ -1,16 +1,12 @@
 -- `descendants::walk::next` meets its contract.
 -- Assumes nothing.
-use mathlib.Core.Path.{sym, ◌∙◌}
-use Rattle.descendants.proofs.Answered.{next-shown, next-refused}
+use mathlib.Core.Path.{refl, sym}
+use Rattle.descendants.specs.Contract.{next_of}
 use Rattle.descendants.proofs.walk.next.Goals as goal
 
-pub step-requires : goal.step-requires
-step-requires c = sym c.memory_ok.ensures ∙ c.if-memory_ok.true
-
-pub returns-then-memory_ok : goal.returns-then-memory_ok
-returns-then-memory_ok c =
-    let a = c.args in
-    next-shown a.d a.mem.now _ c.memory_ok.ensures c.if-memory_ok.true a.at _ c.step.ensures _ c.told.ensures
-
-pub returns-else-memory_ok : goal.returns-else-memory_ok
-returns-else-memory_ok c = let a = c.args in next-refused a.d a.mem.now _ c.memory_ok.ensures c.if-memory_ok.false a.at
+pub returns : goal.returns
+unfolding next_of
+returns c =
+    let v = c.in_ok-view.view in
+    let e = c.in_ok-view.ensures in
+    rw (sym e.1, sym e.2, v.fits, c.step.ensures) refl

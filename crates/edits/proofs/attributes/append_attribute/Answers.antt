@@ -7,8 +7,8 @@ use Rattle.edits.proofs.attributes.append_attribute.Goals as goal
 pub store_attribute-stored-requires : goal.store_attribute-stored-requires
 store_attribute-stored-requires c = attribute-stores c.args.d c.args.mem.now (word_of c.args.element) c.args.namespace.now c.args.local.now c.args.value.now c.requires.admitted c.requires.local_value
 
-pub append_node-made-requires : goal.append_node-made-requires
-append_node-made-requires c =
+pub append_node-requires : goal.append_node-requires
+append_node-requires c =
     let w = c.store_attribute-stored in
     let m = c.new_node-node in
     attribute-ready c.args.d c.args.mem.now (word_of c.args.element) c.args.namespace.now c.args.local.now c.args.value.now c.requires.admitted c.requires.local_value w.result.document _ w.ensures.step m.result w.result.name w.result.value m.ensures w.ensures.name_value w.ensures.value_value
@@ -17,5 +17,5 @@ pub returns : goal.returns
 returns c =
     let w = c.store_attribute-stored in
     let m = c.new_node-node in
-    let n = c.append_node-made in
+    let n = c.append_node in
     attribute-performed c.args.d c.args.mem.now (word_of c.args.element) c.args.namespace.now c.args.local.now c.args.value.now c.requires.admitted c.requires.local_value w.result.document _ w.ensures.step m.result w.result.name w.result.value m.ensures w.ensures.name_value w.ensures.value_value n.result.document _ n.ensures.step

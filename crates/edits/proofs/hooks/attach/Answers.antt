@@ -17,4 +17,4 @@ returns c =
     let a = c.args in
     let adopted = c.set_parent-adopted in
     let linked = c.insert_entry in
-    attach-step a.d a.mem.now (which_of a.arena) (word_of a.id) a.parent (omega (arith, c.well_formed)) adopted.result _ adopted.ensures c.requires a.at _ c.word_of-word.ensures _ linked.ensures.mem_after linked.result linked.ensures.value
+    attach-step a.d a.mem.now (which_of a.arena) (word_of a.id) a.parent (omega (arith, c.well_formed)) adopted.result _ adopted.ensures c.requires a.at _ c.word_of.ensures _ linked.ensures.mem_after linked.result linked.ensures.value

@@ -6,22 +6,22 @@ use Rattle.edits.proofs.replace.replace_in.Goals as goal
 
 pub fill_field-requires : goal.fill_field-requires
 fill_field-requires c =
-    let f = c.text_field-field in
-    empty-ready c.args.d c.args.mem.now c.args.id (omega (arith, c.well_formed)) c.args.text.now c.requires.0 c.args.node c.requires.1 f.result f.ensures c.in-Empty.is
+    let f = c.text_field in
+    empty-ready c.args.d c.args.mem.now c.args.id (omega (arith, c.well_formed)) c.args.text.now c.requires.0 c.args.node c.requires.1 f.result f.ensures c.in-None.is
 
 pub replace_slot-requires : goal.replace_slot-requires
 replace_slot-requires c =
-    let f = c.text_field-field in
-    slot-ready c.args.d c.args.mem.now c.args.id (omega (arith, c.well_formed)) c.args.text.now c.requires.0 c.args.node c.requires.1 f.result f.ensures _ c.in-Expanded.is
+    let f = c.text_field in
+    slot-ready c.args.d c.args.mem.now c.args.id (omega (arith, c.well_formed)) c.args.text.now c.requires.0 c.args.node c.requires.1 f.result f.ensures _ c.in-Some.is
 
-pub returns-in-Empty : goal.returns-in-Empty
-returns-in-Empty c =
-    let f = c.text_field-field in
+pub returns-in-None : goal.returns-in-None
+returns-in-None c =
+    let f = c.text_field in
     let w = c.fill_field in
-    empty-step c.args.d c.args.mem.now c.args.id (omega (arith, c.well_formed)) c.args.text.now c.requires.0 c.args.node c.requires.1 f.result f.ensures c.in-Empty.is w.result _ w.ensures
+    empty-step c.args.d c.args.mem.now c.args.id (omega (arith, c.well_formed)) c.args.text.now c.requires.0 c.args.node c.requires.1 f.result f.ensures c.in-None.is w.result _ w.ensures
 
-pub returns-in-Expanded : goal.returns-in-Expanded
-returns-in-Expanded c =
-    let f = c.text_field-field in
+pub returns-in-Some : goal.returns-in-Some
+returns-in-Some c =
+    let f = c.text_field in
     let w = c.replace_slot in
-    slot_step c.args.d c.args.mem.now c.args.id (omega (arith, c.well_formed)) c.args.text.now c.requires.0 c.args.node c.requires.1 f.result f.ensures _ c.in-Expanded.is w.result _ w.ensures
+    slot_step c.args.d c.args.mem.now c.args.id (omega (arith, c.well_formed)) c.args.text.now c.requires.0 c.args.node c.requires.1 f.result f.ensures _ c.in-Some.is w.result _ w.ensures

@@ -5,12 +5,12 @@ use Rattle.encoding.specs.Given.{done_record}
 use Rattle.encoding.proofs.Given.{given, refused}
 use Rattle.encoding.proofs.answer.give_done.Goals as goal
 
-pub returns-in-Done : goal.returns-in-Done
-returns-in-Done c =
-    let q = given c.args.document.now (done_record c.args.answer) _ _ (ap done_record c.in-Done.is) c.put_record.ensures in
+pub returns-in-Ok : goal.returns-in-Ok
+returns-in-Ok c =
+    let q = given c.args.document.now (done_record c.args.answer) _ _ (ap done_record c.in-Ok.is) c.put_record.ensures in
     record { value = q.0; document_after = q.1 }
 
-pub returns-in-Refused : goal.returns-in-Refused
-returns-in-Refused c =
-    let q = refused c.args.document.now (done_record c.args.answer) _ _ (ap done_record c.in-Refused.is) c.refused.ensures in
+pub returns-in-Err : goal.returns-in-Err
+returns-in-Err c =
+    let q = refused c.args.document.now (done_record c.args.answer) _ _ (ap done_record c.in-Err.is) c.refused.ensures in
     record { value = q.0; document_after = q.1 }

@@ -5,14 +5,14 @@ use Rattle.encoding.specs.Given.{made_record, made_words}
 use mathlib.Core.Path.{ap}
 use Rattle.encoding.proofs.answer.give_made.Goals as goal
 
-pub returns-in-Made : goal.returns-in-Made
-returns-in-Made c =
+pub returns-in-Ok : goal.returns-in-Ok
+returns-in-Ok c =
     let q = given_both c.args.document.now (made_record c.args.answer) c.args.made.now (made_words c.args.answer) _ _ _ _
-    (ap made_record c.in-Made.is) (ap made_words c.in-Made.is) c.put_record.ensures
+    (ap made_record c.in-Ok.is) (ap made_words c.in-Ok.is) c.put_record.ensures
     (one_word c.args.made.now _ _ c.word_of.ensures c.requires.1) in
     record { value = q.0; document_after = q.1 }
 
-pub returns-in-Refused : goal.returns-in-Refused
-returns-in-Refused c =
-    let q = refused-both c.args.document.now (made_record c.args.answer) c.args.made.now (made_words c.args.answer) _ _ (ap made_record c.in-Refused.is) (ap made_words c.in-Refused.is) c.refused.ensures in
+pub returns-in-Err : goal.returns-in-Err
+returns-in-Err c =
+    let q = refused-both c.args.document.now (made_record c.args.answer) c.args.made.now (made_words c.args.answer) _ _ (ap made_record c.in-Err.is) (ap made_words c.in-Err.is) c.refused.ensures in
     record { value = q.0; document_after = q.1 }

@@ -1,12 +1,10 @@
 -- `encoding::positions::give_next` meets its contract.
 -- Assumes nothing.
-use Rattle.encoding.proofs.Walked.{next-listed, next-ended}
+use Rattle.std.proofs.Common.{rules, ◌≡◌, None}
+use Rattle.encoding.proofs.Walked.{next-ended}
 use Rattle.encoding.proofs.positions.give_next.Goals as goal
 
-pub returns-in-At : goal.returns-in-At
-returns-in-At c =
-    next-listed c.args.position.now c.args.out.now c.args.answer _ c.in-At.is _ c.put_position.ensures _ _ c.give_two.ensures
-
-pub returns-in-End : goal.returns-in-End
-returns-in-End c =
-    next-ended c.args.position.now c.args.out.now c.args.answer c.in-End.is _ _ c.give_two-in-End.ensures
+pub returns-in_default : goal.returns-in_default
+returns-in_default c =
+    let ended : c.in-Ok.next ≡ None = search rules in
+    next-ended c.args.position.now c.args.out.now c.args.answer c.in-Ok.next c.in-Ok.is ended _ _ c.give.ensures

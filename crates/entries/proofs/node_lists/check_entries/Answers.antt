@@ -1,5 +1,6 @@
 -- `entries::node_lists::check_entries` meets its contract.
 -- Assumes nothing.
+use mathlib.Core.Path.{◌∙◌}
 use Rattle.entries.proofs.Counting.{rule-refused, rule-decided}
 use Rattle.entries.proofs.node_lists.check_entries.Goals as goal
 
@@ -11,4 +12,4 @@ returns-then-count_lists c =
 pub returns-else-count_lists : goal.returns-else-count_lists
 returns-else-count_lists c =
     let a = c.args in
-    rule-refused a.d a.mem.now a.marks.now _ _ c.count_lists.ensures c.if-count_lists.false
+    c.if-count_lists.false ∙ rule-refused a.d a.mem.now a.marks.now _ _ c.count_lists.ensures c.if-count_lists.false

@@ -1,11 +1,6 @@
-use Prim.Native.Nat.{◌-◌}
-use Rattle.memory.specs.Decode.{slots_made}
 use Rattle.entries.specs.Nodes.{decode_nodes}
 use Rattle.entries.proofs.Paths.{Checked}
 use Rattle.entries.proofs.node_paths.check_paths.Given as goal
 
 abbrev pub invariant-loop-i : goal.invariant-loop-i
 invariant-loop-i l = Checked (decode_nodes l.d l.mem) l.initial.known l.known l.i
-
-abbrev pub decreases-loop-i : goal.decreases-loop-i
-decreases-loop-i l = slots_made l.d - l.i

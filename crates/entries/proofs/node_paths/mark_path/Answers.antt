@@ -4,46 +4,41 @@ use mathlib.Core.Path.{refl, ◌∙◌}
 use native.Mathlib.Omega.{arith}
 use lib.ListN.{length-set}
 use Rattle.entries.specs.Nodes.{decode_nodes}
-use Rattle.entries.proofs.Paths.{gens-made, parents-made, parent_live, end_step, known_next, fewer}
+use Rattle.entries.proofs.Paths.{live-few, parent_live, end_above, known_next, fewer}
 use Rattle.entries.proofs.node_paths.mark_path.Goals as goal
 
-pub made-n-requires : goal.made-n-requires
-made-n-requires c = tt
-
-pub loop-at-init : goal.loop-at-init
-loop-at-init c =
+pub loop-known-init : goal.loop-known-init
+loop-known-init c =
     let p = c.requires in
-    (refl, p.2, p.3, λ _. p.5)
+    (refl, p.2, p.3, p.5)
+
+pub offset_bounds-known-at : goal.offset_bounds-known-at
+offset_bounds-known-at c = omega (arith, c.requires.1, c.loop-known.invariant.0, live-few c.args.d c.args.mem.now c.requires.0 c.loop-known.at c.loop-known.invariant.3)
 
 pub bounds-known-at : goal.bounds-known-at
-bounds-known-at c = omega (arith, c.made-n.ensures, c.loop-at.invariant.0)
+bounds-known-at c = omega (arith, c.requires.1, c.loop-known.invariant.0, live-few c.args.d c.args.mem.now c.requires.0 c.loop-known.at c.loop-known.invariant.3)
 
-pub shape_of-known-then-known-at-ne0 : goal.shape_of-known-then-known-at-ne0
-shape_of-known-then-known-at-ne0 c = c.loop-at.invariant.0
+pub offset_bounds-known-at-in-loop-known : goal.offset_bounds-known-at-in-loop-known
+offset_bounds-known-at-in-loop-known c = omega (arith, c.requires.1, c.loop-known.invariant.0, live-few c.args.d c.args.mem.now c.requires.0 c.loop-known.at c.loop-known.invariant.3)
 
-pub returns-then-known-at-ne0 : goal.returns-then-known-at-ne0
-returns-then-known-at-ne0 c = c.loop-at.invariant.1
+pub bounds-known-at-in-loop-known : goal.bounds-known-at-in-loop-known
+bounds-known-at-in-loop-known c = omega (arith, c.requires.1, c.loop-known.invariant.0, live-few c.args.d c.args.mem.now c.requires.0 c.loop-known.at c.loop-known.invariant.3)
 
-pub bounds-known-at-in-loop-at : goal.bounds-known-at-in-loop-at
-bounds-known-at-in-loop-at c = omega (arith, c.made-n.ensures, c.loop-at.invariant.0)
+pub parent_slot-requires : goal.parent_slot-requires
+parent_slot-requires c = (c.requires.0, c.loop-known.invariant.3)
 
-pub parent_slot-at-requires : goal.parent_slot-at-requires
-parent_slot-at-requires c =
-    (c.requires.0, c.loop-at.invariant.3 (omega (arith, c.made-n.ensures)))
+pub loop-known-smaller : goal.loop-known-smaller
+loop-known-smaller c =
+    fewer c.loop-known.known c.loop-known.at (omega (arith, c.requires.1, c.loop-known.invariant.0, live-few c.args.d c.args.mem.now c.requires.0 c.loop-known.at c.loop-known.invariant.3)) c.loop-known-test.true
 
-pub loop-at-smaller : goal.loop-at-smaller
-loop-at-smaller c = fewer c.loop-at.known c.loop-at.at (omega (arith, c.made-n.ensures, c.loop-at.invariant.0)) c.if-known-at-ne0.false
+pub returns-in-None : goal.returns-in-None
+returns-in-None c =
+    let i = c.loop-known.invariant in
+    known_next (decode_nodes c.args.d c.args.mem.now) c.loop-known.known c.loop-known.at 1 i.1 i.2 (omega (arith, c.requires.1, i.0, live-few c.args.d c.args.mem.now c.requires.0 c.loop-known.at c.loop-known.invariant.3))
 
-pub loop-at-preserved : goal.loop-at-preserved
-loop-at-preserved c =
-    let a = c.args in
-    let d = decode_nodes a.d a.mem.now in
-    let e = gens-made a.d a.mem.now in
-    let o = parents-made a.d a.mem.now in
-    (length-set c.loop-at.known c.loop-at.at 1 ∙ c.loop-at.invariant.0, known_next d c.loop-at.known c.loop-at.at 1 c.loop-at.invariant.1 c.loop-at.invariant.2 (omega (arith, c.made-n.ensures, c.loop-at.invariant.0)), end_step d o _ _ c.loop-at.invariant.2 c.parent_slot-at.ensures, λ b. parent_live d c.requires.4 _ _ (c.loop-at.invariant.3 (omega (arith, c.made-n.ensures))) c.parent_slot-at.ensures (omega (arith, b, e)))
-
-pub shape_of-known : goal.shape_of-known
-shape_of-known c = c.loop-at.invariant.0
-
-pub returns : goal.returns
-returns c = c.loop-at.invariant.1
+pub loop-known-preserved : goal.loop-known-preserved
+loop-known-preserved c =
+    let D = decode_nodes c.args.d c.args.mem.now in
+    let i = c.loop-known.invariant in
+    let e = c.in-Some.ensures in
+    (length-set c.loop-known.known c.loop-known.at 1 ∙ i.0, known_next D c.loop-known.known c.loop-known.at 1 i.1 i.2 (omega (arith, c.requires.1, i.0, live-few c.args.d c.args.mem.now c.requires.0 c.loop-known.at c.loop-known.invariant.3)), end_above D _ c.in-Some.parent e i.2, parent_live D _ c.in-Some.parent e c.requires.4 i.3)

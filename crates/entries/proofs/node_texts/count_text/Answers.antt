@@ -6,14 +6,14 @@ use Rattle.entries.proofs.node_texts.count_text.Goals as goal
 pub returns-then-s-texts : goal.returns-then-s-texts
 returns-then-s-texts c =
     let a = c.args in
-    text-outside a.text a.texts a.marks.now _ c.in-Expanded.is c.if-s-texts.true
+    text-outside a.text a.texts a.marks.now _ c.in-Some.is c.if-s-texts.true
 
-pub returns-in-Empty : goal.returns-in-Empty
-returns-in-Empty c =
+pub returns-in-None : goal.returns-in-None
+returns-in-None c =
     let a = c.args in
-    text-none a.text a.texts a.marks.now c.in-Empty.is
+    text-none a.text a.texts a.marks.now c.in-None.is
 
 pub returns-else-s-texts : goal.returns-else-s-texts
 returns-else-s-texts c =
     let a = c.args in
-    text-counted a.text a.texts a.marks.now _ c.in-Expanded.is c.if-s-texts.false c.requires _ c.count.ensures
+    text-counted a.text a.texts a.marks.now _ c.in-Some.is c.if-s-texts.false c.requires _ c.count.ensures

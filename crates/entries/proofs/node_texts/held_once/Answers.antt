@@ -1,8 +1,10 @@
 -- `entries::node_texts::held_once` meets its contract.
 -- Assumes nothing.
+use mathlib.Core.Path.{◌∙◌}
+use native.Mathlib.Omega.{arith}
 use Rattle.memory.specs.Decode.{slots_made}
 use Rattle.entries.specs.Nodes.{decode_nodes}
-use Rattle.entries.proofs.Texts.{slots-decided, free-inside, free-markable}
+use Rattle.entries.proofs.Texts.{marked-all, slots-decided, free-inside, free-markable}
 use Rattle.entries.proofs.node_texts.held_once.Goals as goal
 
 pub count_free-requires : goal.count_free-requires
@@ -13,4 +15,4 @@ count_free-requires c =
 pub returns : goal.returns
 returns c =
     let a = c.args in
-    slots-decided (decode_nodes a.d a.mem.now) a.d.counts.texts (slots_made a.d) a.marks.now c.requires.marks_len.0 c.requires.marks_len.1 _ _ _ c.count_free.ensures c.all_once.ensures
+    slots-decided (decode_nodes a.d a.mem.now) a.d.counts.texts (slots_made a.d) a.marks.now c.requires.marks_len.0 c.requires.marks_len.1 _ _ _ c.count_free.ensures (c.all_once.ensures ∙ marked-all c.count_free.new.marks a.d.counts.texts (omega (arith, c.count_free.auto.marks, c.requires.marks_len.0)))

@@ -10,16 +10,16 @@ use Rattle.exports.proofs.append.oxml_append_text.Goals as goal
 
 pub give_made-requires : goal.give_made-requires
 give_made-requires c =
-    let l = whole c.args.document.now (length c.args.made.now) 1 _ _ c.lent_record.ensures c.in-Record.is in
+    let l = whole c.args.document.now (length c.args.made.now) 1 _ _ c.lent_record.ensures c.in-Some.is in
     (l.words, l.enough)
 
-pub returns-in-Short : goal.returns-in-Short
-returns-in-Short c =
-    too_short (append-text c.args.parent c.args.text.now) 1 as_made c.args.document.now c.args.memory.now c.args.scratch.now c.args.made.now _ c.lent_record.ensures c.in-Short.is
+pub returns-in_default : goal.returns-in_default
+returns-in_default c =
+    rw c.refused.ensures (too_short (append-text c.args.parent c.args.text.now) 1 as_made c.args.document.now c.args.memory.now c.args.scratch.now c.args.made.now _ c.lent_record.ensures c.in_default.is)
 
-pub returns-in-Record : goal.returns-in-Record
-returns-in-Record c =
-    makes (append-text c.args.parent c.args.text.now) c.args.document.now c.args.memory.now c.args.scratch.now c.args.made.now c.in-Record.d (whole c.args.document.now (length c.args.made.now) 1 _ _ c.lent_record.ensures c.in-Record.is) _ _ _ _ _
+pub returns : goal.returns
+returns c =
+    makes (append-text c.args.parent c.args.text.now) c.args.document.now c.args.memory.now c.args.scratch.now c.args.made.now c.in-Some.d (whole c.args.document.now (length c.args.made.now) 1 _ _ c.lent_record.ensures c.in-Some.is) _ _ _ _ _
     c.append_text-answer.result
     (by_word (λ (h : ℕ). (append-text h c.args.text.now)) c.args.parent _ c.id_of-id.ensures _ _ _ _ _ _ _ c.append_text-answer.ensures)
     c.give_made.ensures.value c.give_made.ensures.document_after.0 c.give_made.ensures.document_after.1

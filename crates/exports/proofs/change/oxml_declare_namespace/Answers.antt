@@ -10,16 +10,16 @@ use Rattle.exports.proofs.change.oxml_declare_namespace.Goals as goal
 
 pub give_made-requires : goal.give_made-requires
 give_made-requires c =
-    let l = whole c.args.document.now (length c.args.made.now) 1 _ _ c.lent_record.ensures c.in-Record.is in
+    let l = whole c.args.document.now (length c.args.made.now) 1 _ _ c.lent_record.ensures c.in-Some.is in
     (l.words, l.enough)
 
-pub returns-in-Short : goal.returns-in-Short
-returns-in-Short c =
-    too_short (declare-namespace c.args.element c.args.prefix.now c.args.uri.now) 1 as_made c.args.document.now c.args.memory.now c.args.scratch.now c.args.made.now _ c.lent_record.ensures c.in-Short.is
+pub returns-in_default : goal.returns-in_default
+returns-in_default c =
+    rw c.refused.ensures (too_short (declare-namespace c.args.element c.args.prefix.now c.args.uri.now) 1 as_made c.args.document.now c.args.memory.now c.args.scratch.now c.args.made.now _ c.lent_record.ensures c.in_default.is)
 
-pub returns-in-Record : goal.returns-in-Record
-returns-in-Record c =
-    makes (declare-namespace c.args.element c.args.prefix.now c.args.uri.now) c.args.document.now c.args.memory.now c.args.scratch.now c.args.made.now c.in-Record.d (whole c.args.document.now (length c.args.made.now) 1 _ _ c.lent_record.ensures c.in-Record.is) _ _ _ _ _
+pub returns : goal.returns
+returns c =
+    makes (declare-namespace c.args.element c.args.prefix.now c.args.uri.now) c.args.document.now c.args.memory.now c.args.scratch.now c.args.made.now c.in-Some.d (whole c.args.document.now (length c.args.made.now) 1 _ _ c.lent_record.ensures c.in-Some.is) _ _ _ _ _
     c.declare_namespace-answer.result
     (by_word (λ (h : ℕ). (declare-namespace h c.args.prefix.now c.args.uri.now)) c.args.element _ c.id_of-id.ensures _ _ _ _ _ _ _ c.declare_namespace-answer.ensures)
     c.give_made.ensures.value c.give_made.ensures.document_after.0 c.give_made.ensures.document_after.1

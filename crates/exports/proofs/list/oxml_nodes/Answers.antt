@@ -7,12 +7,12 @@ use Rattle.exports.proofs.list.oxml_nodes.Goals as goal
 
 pub give_count-requires : goal.give_count-requires
 give_count-requires c =
-    (whole c.args.document.now (length c.args.answer.now) 1 _ _ c.lent_record.ensures c.in-Record.is).enough
+    (whole c.args.document.now (length c.args.answer.now) 1 _ _ c.lent_record.ensures c.in-Some.is).enough
 
-pub returns-in-Short : goal.returns-in-Short
-returns-in-Short c =
-    nodes-short c.args.document.now c.args.memory.now c.args.list.now c.args.answer.now _ c.lent_record.ensures c.in-Short.is
+pub returns-in_default : goal.returns-in_default
+returns-in_default c =
+    rw c.refused.ensures (nodes-short c.args.document.now c.args.memory.now c.args.list.now c.args.answer.now _ c.lent_record.ensures c.in_default.is)
 
-pub returns-in-Record : goal.returns-in-Record
-returns-in-Record c =
-    nodes-shown c.args.document.now c.args.memory.now c.args.list.now c.args.answer.now c.in-Record.d (whole c.args.document.now (length c.args.answer.now) 1 _ _ c.lent_record.ensures c.in-Record.is) c.nodes-shown.result _ _ _ c.nodes-shown.ensures c.give_count.ensures
+pub returns : goal.returns
+returns c =
+    nodes-shown c.args.document.now c.args.memory.now c.args.list.now c.args.answer.now c.in-Some.d (whole c.args.document.now (length c.args.answer.now) 1 _ _ c.lent_record.ensures c.in-Some.is) c.nodes.result _ _ _ c.nodes.ensures c.give_count.ensures

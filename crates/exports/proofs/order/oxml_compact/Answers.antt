@@ -9,15 +9,15 @@ use Rattle.exports.proofs.order.oxml_compact.Goals as goal
 
 pub give_done-requires : goal.give_done-requires
 give_done-requires c =
-    (whole c.args.document.now 0 0 _ _ c.lent_record.ensures c.in-Record.is).words
+    (whole c.args.document.now 0 0 _ _ c.lent_record.ensures c.in-Some.is).words
 
-pub returns-in-Short : goal.returns-in-Short
-returns-in-Short c =
-    too_short compact 0 as_done c.args.document.now c.args.memory.now c.args.scratch.now [] _ c.lent_record.ensures c.in-Short.is
+pub returns-in_default : goal.returns-in_default
+returns-in_default c =
+    rw c.refused.ensures (too_short compact 0 as_done c.args.document.now c.args.memory.now c.args.scratch.now [] _ c.lent_record.ensures c.in_default.is)
 
-pub returns-in-Record : goal.returns-in-Record
-returns-in-Record c =
-    does compact c.args.document.now c.args.memory.now c.args.scratch.now c.in-Record.d (whole c.args.document.now 0 0 _ _ c.lent_record.ensures c.in-Record.is) _ _ _ _
+pub returns : goal.returns
+returns c =
+    does compact c.args.document.now c.args.memory.now c.args.scratch.now c.in-Some.d (whole c.args.document.now 0 0 _ _ c.lent_record.ensures c.in-Some.is) _ _ _ _
     c.compact-answer.result
     c.compact-answer.ensures
     c.give_done.ensures.value c.give_done.ensures.document_after

@@ -11,15 +11,15 @@ use Rattle.exports.proofs.read.oxml_is_element.Goals as goal
 
 pub give_truth-requires : goal.give_truth-requires
 give_truth-requires c =
-    (whole c.args.document.now (length c.args.answer.now) 1 _ _ c.lent_record.ensures c.in-Record.is).enough
+    (whole c.args.document.now (length c.args.answer.now) 1 _ _ c.lent_record.ensures c.in-Some.is).enough
 
-pub returns-in-Short : goal.returns-in-Short
-returns-in-Short c =
-    read_short (is-element c.args.id) 1 as_truth c.args.document.now c.args.memory.now c.args.answer.now _ c.lent_record.ensures c.in-Short.is
+pub returns-in_default : goal.returns-in_default
+returns-in_default c =
+    rw c.refused.ensures (read_short (is-element c.args.id) 1 as_truth c.args.document.now c.args.memory.now c.args.answer.now _ c.lent_record.ensures c.in_default.is)
 
-pub returns-in-Record : goal.returns-in-Record
-returns-in-Record c =
-    shows (is-element c.args.id) 1 as_truth c.args.document.now c.args.memory.now c.args.answer.now c.in-Record.d (whole c.args.document.now (length c.args.answer.now) 1 _ _ c.lent_record.ensures c.in-Record.is) (truth_words c.is_element-shown.result) _ _ _
-    (tells-truth c.in-Record.d c.args.memory.now c.is_element-shown.result)
-    (read_word (λ (h : ℕ). is-element h) c.args.id _ c.id_of.ensures _ _ _ c.is_element-shown.ensures)
+pub returns : goal.returns
+returns c =
+    shows (is-element c.args.id) 1 as_truth c.args.document.now c.args.memory.now c.args.answer.now c.in-Some.d (whole c.args.document.now (length c.args.answer.now) 1 _ _ c.lent_record.ensures c.in-Some.is) (truth_words c.is_element.result) _ _ _
+    (tells-truth c.in-Some.d c.args.memory.now c.is_element.result)
+    (read_word (λ (h : ℕ). is-element h) c.args.id _ c.id_of.ensures _ _ _ c.is_element.ensures)
     c.give_truth.ensures

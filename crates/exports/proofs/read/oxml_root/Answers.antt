@@ -10,15 +10,15 @@ use Rattle.exports.proofs.read.oxml_root.Goals as goal
 
 pub give_root-requires : goal.give_root-requires
 give_root-requires c =
-    (whole c.args.document.now (length c.args.answer.now) 1 _ _ c.lent_record.ensures c.in-Record.is).enough
+    (whole c.args.document.now (length c.args.answer.now) 1 _ _ c.lent_record.ensures c.in-Some.is).enough
 
-pub returns-in-Short : goal.returns-in-Short
-returns-in-Short c =
-    read_short root-of 1 as_made c.args.document.now c.args.memory.now c.args.answer.now _ c.lent_record.ensures c.in-Short.is
+pub returns-in_default : goal.returns-in_default
+returns-in_default c =
+    rw c.refused.ensures (read_short root-of 1 as_made c.args.document.now c.args.memory.now c.args.answer.now _ c.lent_record.ensures c.in_default.is)
 
-pub returns-in-Record : goal.returns-in-Record
-returns-in-Record c =
-    shows root-of 1 as_made c.args.document.now c.args.memory.now c.args.answer.now c.in-Record.d (whole c.args.document.now (length c.args.answer.now) 1 _ _ c.lent_record.ensures c.in-Record.is) (root_words c.root-shown.result) _ _ _
-    (tells-root c.in-Record.d c.args.memory.now c.root-shown.result)
-    c.root-shown.ensures
+pub returns : goal.returns
+returns c =
+    shows root-of 1 as_made c.args.document.now c.args.memory.now c.args.answer.now c.in-Some.d (whole c.args.document.now (length c.args.answer.now) 1 _ _ c.lent_record.ensures c.in-Some.is) (root_words c.root.result) _ _ _
+    (tells-root c.in-Some.d c.args.memory.now c.root.result)
+    c.root.ensures
     c.give_root.ensures

@@ -7,14 +7,14 @@ use Rattle.exports.proofs.walk.oxml_list_below.Goals as goal
 
 pub give_count-requires : goal.give_count-requires
 give_count-requires c =
-    (whole c.args.document.now (length c.args.answer.now) 1 _ _ c.lent_record.ensures c.in-Record.is).enough
+    (whole c.args.document.now (length c.args.answer.now) 1 _ _ c.lent_record.ensures c.in-Some.is).enough
 
-pub returns-in-Short : goal.returns-in-Short
-returns-in-Short c =
-    below-short c.args.zone c.args.document.now c.args.memory.now c.args.list.now c.args.answer.now _ c.lent_record.ensures c.in-Short.is
+pub returns-in_default : goal.returns-in_default
+returns-in_default c =
+    rw c.refused.ensures (below-short c.args.zone c.args.document.now c.args.memory.now c.args.list.now c.args.answer.now _ c.lent_record.ensures c.in_default.is)
 
-pub returns-in-Record : goal.returns-in-Record
-returns-in-Record c =
-    below-given c.args.zone c.args.document.now c.args.memory.now c.args.list.now c.args.answer.now c.in-Record.d
-    (whole c.args.document.now (length c.args.answer.now) 1 _ _ c.lent_record.ensures c.in-Record.is) _ c.id_of-id.ensures _ _ c.list_below-written.ensures _ _
+pub returns : goal.returns
+returns c =
+    below-given c.args.zone c.args.document.now c.args.memory.now c.args.list.now c.args.answer.now c.in-Some.d
+    (whole c.args.document.now (length c.args.answer.now) 1 _ _ c.lent_record.ensures c.in-Some.is) _ c.id_of-id.ensures _ _ c.list_below-written.ensures _ _
     c.give_count.ensures

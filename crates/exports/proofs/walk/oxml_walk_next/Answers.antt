@@ -12,18 +12,18 @@ returns-then-answer-lt2 c =
 
 pub position_of-at-requires : goal.position_of-at-requires
 position_of-at-requires c =
-    (whole c.args.document.now (length c.args.position.now) 7 _ _ c.lent_record.ensures c.in-Record.is).enough
+    (whole c.args.document.now (length c.args.position.now) 7 _ _ c.lent_record.ensures c.in-Some.is).enough
 
 pub give_next-requires : goal.give_next-requires
 give_next-requires c =
-    ((whole c.args.document.now (length c.args.position.now) 7 _ _ c.lent_record.ensures c.in-Record.is).enough, omega arith)
+    ((whole c.args.document.now (length c.args.position.now) 7 _ _ c.lent_record.ensures c.in-Some.is).enough, omega arith)
 
-pub returns-in-Short : goal.returns-in-Short
-returns-in-Short c =
-    next-short c.args.document.now c.args.memory.now c.args.position.now c.args.answer.now _ c.lent_record.ensures c.in-Short.is
+pub returns-in_default : goal.returns-in_default
+returns-in_default c =
+    rw c.refused.ensures (next-short c.args.document.now c.args.memory.now c.args.position.now c.args.answer.now _ c.lent_record.ensures c.in_default.is)
 
-pub returns-in-Record : goal.returns-in-Record
-returns-in-Record c =
-    next-given c.args.document.now c.args.memory.now c.args.position.now c.args.answer.now c.in-Record.d
-    (whole c.args.document.now (length c.args.position.now) 7 _ _ c.lent_record.ensures c.in-Record.is) (omega arith) _ c.position_of-at.ensures _ c.next_held-found.ensures _ _ _
+pub returns : goal.returns
+returns c =
+    next-given c.args.document.now c.args.memory.now c.args.position.now c.args.answer.now c.in-Some.d
+    (whole c.args.document.now (length c.args.position.now) 7 _ _ c.lent_record.ensures c.in-Some.is) (omega arith) _ c.position_of-at.ensures _ c.next_held-found.ensures _ _ _
     c.give_next.ensures

@@ -1,118 +1,58 @@
 -- `freeing::subtree::free_nodes` meets its contract.
 -- Assumes nothing.
-use mathlib.Core.Path.{ap, ◌∙◌}
-use native.Mathlib.Omega.{arith}
-use lib.ListN.{length, length-set}
+use mathlib.Core.Path.{sym, ap, ◌∙◌}
+use mathlib.Core.List.{reverse}
+use lib.ListN.{length}
 use Rattle.records.specs.Handles.{word_of}
-use Rattle.records.specs.declared.NodeId.{NodeId}
 use Rattle.memory.specs.Decode.{decode}
-use Rattle.freeing.proofs.Turns.{stack_some, room-set, lowest-freeable, lowest-first, lowest-last, height-short, turn-left, memory-freed, lists-held, stack-room, node-freeable, freeing-next, freeing-last}
+use Rattle.walks.specs.Order.{pushed_in}
+use Rattle.walks.specs.Stack.{Stacked, pushed}
+use Rattle.freeing.proofs.Turns.{stack_some, freeing-first, freed-smaller, memory-freed, lists-held, stack-room, node-freeable, freeing-next, freeing-last}
 use Rattle.freeing.proofs.subtree.free_nodes.Goals as goal
 
-pub word_of-requires : goal.word_of-requires
-word_of-requires c = tt
+pub with_word-stack-requires : goal.with_word-stack-requires
+with_word-stack-requires c =
+    stack_some c.args.d (length c.args.mem.now) (length c.args.words.now) c.requires.0 c.requires.1
 
-pub bounds-stack-0 : goal.bounds-stack-0
-bounds-stack-0 c =
-    stack_some c.args.d (length c.args.mem.now) (length c.args.stack.now) c.requires.0 c.requires.1
+pub loop-word-init : goal.loop-word-init
+loop-word-init c =
+    let a = c.args in
+    freeing-first a.d a.mem.now (word_of a.id) c.requires.0 c.requires.2 a.words.now (stack_some a.d (length a.mem.now) (length a.words.now) c.requires.0 c.requires.1) _ c.word_of.ensures _ c.with_word-stack.ensures
 
-pub made-left-requires : goal.made-left-requires
-made-left-requires c = tt
-
-pub loop-height-init : goal.loop-height-init
-loop-height-init c =
-    let d = c.args.d in
-    let mem = c.args.mem.now in
-    let stack = c.args.stack.now in
-    let w = c.word_of in
-    lowest-first (word_of c.args.id) w.result stack (stack_some d (length mem) (length stack) c.requires.0 c.requires.1) w.ensures d mem c.requires.0 c.requires.2 _ c.made-left.ensures
-
-pub offset_bounds-stack-height : goal.offset_bounds-stack-height
-offset_bounds-stack-height c =
-    let d = c.args.d in
-    let mem = c.args.mem.now in
-    let w = c.word_of in
-    let S = lowest-freeable (word_of c.args.id) w.result c.args.stack.now (stack_some d (length mem) (length c.args.stack.now) c.requires.0 c.requires.1) w.ensures (decode d mem) c.requires.2 in
-    let l = c.loop-height in
-    let F = l.invariant in
-    omega (arith, height-short d mem _ c.requires.0 S _ _ _ _ _ _ F)
-
-pub bounds-stack-height : goal.bounds-stack-height
-bounds-stack-height c =
-    let t = c.loop-height.invariant.tall in
-    omega arith
-
-pub id_of-node-requires : goal.id_of-node-requires
-id_of-node-requires c = tt
-
-pub push_lists-height-requires : goal.push_lists-height-requires
-push_lists-height-requires c =
-    let d = c.args.d in
-    let mem = c.args.mem.now in
-    let w = c.word_of in
-    let S = lowest-freeable (word_of c.args.id) w.result c.args.stack.now (stack_some d (length mem) (length c.args.stack.now) c.requires.0 c.requires.1) w.ensures (decode d mem) c.requires.2 in
-    let l = c.loop-height in
-    let F = l.invariant in
-    (lists-held d mem _ c.requires.0 S _ _ _ _ _ _ F c.loop-height-test.true _ (ap (λ (x : NodeId). x.index) c.id_of-node.ensures), stack-room d mem _ c.requires.0 S _ _ _ _ _ _ F c.loop-height-test.true _ (ap (λ (x : NodeId). x.index) c.id_of-node.ensures) (room-set c.args.stack.now _ _ c.requires.1))
+pub push_lists-requires : goal.push_lists-requires
+push_lists-requires c =
+    let a = c.args in
+    let F = c.loop-word.invariant in
+    let top = sym c.in-Some.is ∙ c.pop.ensures.value in
+    let s = c.slot_of-slot.ensures in (
+      lists-held a.d a.mem.now (word_of a.id) c.requires.0 c.requires.2 _ _ _ _ F _ top _ s,
+      rw (c.pop.ensures.stack_after) (stack-room a.d a.mem.now (word_of a.id) c.requires.0 c.requires.2 _ _ _ _ F _ top _ s c.requires.1),
+    )
 
 pub free_node-document-requires : goal.free_node-document-requires
 free_node-document-requires c =
-    let d = c.args.d in
-    let mem = c.args.mem.now in
-    let w = c.word_of in
-    let S = lowest-freeable (word_of c.args.id) w.result c.args.stack.now (stack_some d (length mem) (length c.args.stack.now) c.requires.0 c.requires.1) w.ensures (decode d mem) c.requires.2 in
-    let l = c.loop-height in
-    let F = l.invariant in
-    (memory-freed d mem _ c.requires.0 S _ _ _ _ _ _ F c.loop-height-test.true, node-freeable d mem _ c.requires.0 S _ _ _ _ _ _ F c.loop-height-test.true _ (ap (λ (x : NodeId). x.index) c.id_of-node.ensures))
+    let a = c.args in
+    let F = c.loop-word.invariant in
+    let top = sym c.in-Some.is ∙ c.pop.ensures.value in (
+      memory-freed a.d a.mem.now (word_of a.id) c.requires.0 c.requires.2 _ _ _ _ F _ top,
+      node-freeable a.d a.mem.now (word_of a.id) c.requires.0 c.requires.2 _ _ _ _ F _ top _ c.slot_of-slot.ensures,
+    )
 
-pub overflow_sub-left : goal.overflow_sub-left
-overflow_sub-left c =
-    let d = c.args.d in
-    let mem = c.args.mem.now in
-    let w = c.word_of in
-    let S = lowest-freeable (word_of c.args.id) w.result c.args.stack.now (stack_some d (length mem) (length c.args.stack.now) c.requires.0 c.requires.1) w.ensures (decode d mem) c.requires.2 in
-    let l = c.loop-height in
-    let F = l.invariant in
-    turn-left d mem _ c.requires.0 S _ _ _ _ _ _ F c.loop-height-test.true
+pub loop-word-smaller : goal.loop-word-smaller
+loop-word-smaller c =
+    let a = c.args in
+    freed-smaller a.d a.mem.now (word_of a.id) c.requires.0 c.requires.2 _ _ _ _ c.loop-word.invariant _ (sym c.in-Some.is ∙ c.pop.ensures.value) _ c.slot_of-slot.ensures _ _ c.free_node-document.ensures
 
-pub loop-height-smaller : goal.loop-height-smaller
-loop-height-smaller c =
-    let d = c.args.d in
-    let mem = c.args.mem.now in
-    let w = c.word_of in
-    let S = lowest-freeable (word_of c.args.id) w.result c.args.stack.now (stack_some d (length mem) (length c.args.stack.now) c.requires.0 c.requires.1) w.ensures (decode d mem) c.requires.2 in
-    let l = c.loop-height in
-    let F = l.invariant in
-    let t = turn-left d mem _ c.requires.0 S _ _ _ _ _ _ F c.loop-height-test.true in
-    omega arith
-
-pub loop-height-preserved : goal.loop-height-preserved
-loop-height-preserved c =
-    let d = c.args.d in
-    let mem = c.args.mem.now in
-    let w = c.word_of in
-    let S = lowest-freeable (word_of c.args.id) w.result c.args.stack.now (stack_some d (length mem) (length c.args.stack.now) c.requires.0 c.requires.1) w.ensures (decode d mem) c.requires.2 in
-    let l = c.loop-height in
-    let F = l.invariant in
-    let p = c.push_lists-height in
-    let f = c.free_node-document in
-    freeing-next d mem _ c.requires.0 S _ _ _ _ _ _ F c.loop-height-test.true _ (ap (λ (x : NodeId). x.index) c.id_of-node.ensures) (room-set c.args.stack.now _ _ c.requires.1) _ _ p.ensures.value p.ensures.stack_after f.result _ f.ensures
-
-pub shape_of-mem : goal.shape_of-mem
-shape_of-mem c = c.loop-height.invariant.step.size
-
-pub shape_of-stack : goal.shape_of-stack
-shape_of-stack c =
-    let w = c.word_of.result in
-    c.loop-height.invariant.same-room ∙ length-set c.args.stack.now 0 w
+pub loop-word-preserved : goal.loop-word-preserved
+loop-word-preserved c =
+    let a = c.args in
+    let l = reverse (pushed_in (decode c.loop-word.document c.loop-word.mem) c.slot_of-slot.result.0) in
+    freeing-next a.d a.mem.now (word_of a.id) c.requires.0 c.requires.2 _ _ _ _ c.loop-word.invariant _ (sym c.in-Some.is ∙ c.pop.ensures.value) _ c.slot_of-slot.ensures c.requires.1 _
+    (c.push_lists.ensures ∙ ap (λ (s : Stacked). pushed l s) c.pop.ensures.stack_after)
+    _ _ c.free_node-document.ensures
 
 pub returns : goal.returns
 returns c =
-    let d = c.args.d in
-    let mem = c.args.mem.now in
-    let w = c.word_of in
-    let S = lowest-freeable (word_of c.args.id) w.result c.args.stack.now (stack_some d (length mem) (length c.args.stack.now) c.requires.0 c.requires.1) w.ensures (decode d mem) c.requires.2 in
-    let l = c.loop-height in
-    let F = l.invariant in
-    let q = lowest-last (word_of c.args.id) w.result c.args.stack.now (stack_some d (length mem) (length c.args.stack.now) c.requires.0 c.requires.1) w.ensures d mem _ _ (freeing-last d mem _ c.requires.0 S _ _ _ _ _ _ F c.loop-height-test.false) in
+    let a = c.args in
+    let q = freeing-last a.d a.mem.now (word_of a.id) c.requires.0 c.requires.2 _ _ _ _ c.loop-word.invariant (sym c.in_default.is ∙ c.pop.ensures.value) in
     record { step = q.0; reclaimable = q.1 }

@@ -1,9 +1,13 @@
-use lib.ListN.{length, get_or}
+use Prim.Native.Nat.{◌-◌}
+use lib.ListN.{length}
+use Rattle.records.specs.Handles.{word_of}
+use Rattle.memory.specs.Decode.{decode}
 use Rattle.freeing.proofs.Turns.{Freeing}
 use Rattle.freeing.proofs.subtree.free_nodes.Given as goal
 
-abbrev pub invariant-loop-height : goal.invariant-loop-height
-invariant-loop-height l = Freeing l.initial.document l.initial.mem (get_or l.initial.stack 0 0) (length l.initial.stack) l.document l.mem l.stack l.height l.left
+abbrev pub invariant-loop-word : goal.invariant-loop-word
+invariant-loop-word l = Freeing l.initial.document l.initial.mem (word_of l.fn.id) (length l.fn.words) l.document l.mem l.stack
 
-abbrev pub decreases-loop-height : goal.decreases-loop-height
-decreases-loop-height l = l.left
+-- each turn frees a slot
+abbrev pub decreases-loop-word : goal.decreases-loop-word
+decreases-loop-word l = l.document.limits.nodes - length (decode l.document l.mem).free

@@ -12,8 +12,8 @@ pub reclaim_texts-requires : goal.reclaim_texts-requires
 reclaim_texts-requires c =
     let f = c.free_nodes-freed in
     let a = c.args in
-    let e : length f.new.stack ≡ length a.scratch.now = search rules in
-    nodes-reclaimable a.d a.mem.now c.requires.0 (word_of a.id) c.requires.3 f.result _ (f.ensures.step, f.ensures.reclaimable) (length f.new.stack) (omega arith)
+    let e : length f.new.words ≡ length a.scratch.now = search rules in
+    nodes-reclaimable a.d a.mem.now c.requires.0 (word_of a.id) c.requires.3 f.result _ (f.ensures.step, f.ensures.reclaimable) (length f.new.words) (omega arith)
 
 pub returns : goal.returns
 returns c =

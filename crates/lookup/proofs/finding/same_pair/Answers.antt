@@ -6,7 +6,7 @@ use Rattle.lookup.proofs.Found.{pair-both, pair-not}
 use Rattle.lookup.proofs.finding.same_pair.Goals as goal
 
 pub returns-then-same_bytes : goal.returns-then-same_bytes
-returns-then-same_bytes c = let s = c.args in pair-both s.namespace.now s.local.now (pair_at (decode s.d s.mem.now) s.number.0) _ c.namespace_bytes.ensures _ c.same_bytes.ensures c.if-same_bytes.true _ c.local_bytes.ensures _ c.same_bytes-then-same_bytes.ensures
+returns-then-same_bytes c = let s = c.args in pair-both s.namespace.now s.local.now (pair_at (decode s.d s.mem.now) s.number.0) _ c.name_bytes.ensures _ c.same_bytes.ensures c.if-same_bytes.true _ c.name_bytes-then-same_bytes.ensures _ c.same_bytes-then-same_bytes.ensures
 
-pub returns : goal.returns
-returns c = let s = c.args in pair-not s.namespace.now s.local.now (pair_at (decode s.d s.mem.now) s.number.0) _ c.namespace_bytes.ensures _ c.same_bytes.ensures c.if-same_bytes.false
+pub returns-else-same_bytes : goal.returns-else-same_bytes
+returns-else-same_bytes c = let s = c.args in pair-not s.namespace.now s.local.now (pair_at (decode s.d s.mem.now) s.number.0) _ c.name_bytes.ensures _ c.same_bytes.ensures c.if-same_bytes.false

@@ -1,10 +1,6 @@
 use Rattle.lookup.proofs.Climbing.{Climbed}
-use Prim.Native.Nat.{◌-◌}
-use Rattle.memory.specs.Decode.{decode}
+use Rattle.memory.specs.Decode.{slots_made, decode}
 use Rattle.lookup.proofs.paths.on_path.Given as goal
 
-abbrev pub invariant-loop-k : goal.invariant-loop-k
-invariant-loop-k l = Climbed (decode l.d l.mem) l.steps l.top l.initial.at l.k l.at
-
-abbrev pub decreases-loop-k : goal.decreases-loop-k
-decreases-loop-k l = l.steps - l.k
+abbrev pub invariant-loop : goal.invariant-loop
+invariant-loop l = Climbed (decode l.d l.mem) (slots_made l.d) l.top l.initial.at l.counter l.at

@@ -9,8 +9,8 @@ use Rattle.model.specs.Arguments.{refuse_if}
 use Rattle.model.specs.Checks.{container}
 use Rattle.lookup.proofs.views.container.Goals as goal
 
-pub returns-in-Found : goal.returns-in-Found
-returns-in-Found c = let s = c.args in check-found s.d s.mem.now s.id (omega arith) (omega arith) container (λ k. refuse_if (not (is_container k)) 8) (λ f g k. container-kind f g k) _ (sym c.resolve.ensures ∙ c.in-Found.is) _ c.container_kind.ensures
+pub returns-in-Some : goal.returns-in-Some
+returns-in-Some c = let s = c.args in check-found s.d s.mem.now s.id (omega arith) (omega arith) container (λ k. refuse_if (not (is_container k)) 8) (λ f g k. container-kind f g k) _ (sym c.resolve.ensures ∙ c.in-Some.is) _ c.container_kind.ensures
 
-pub returns-in-NoNode : goal.returns-in-NoNode
-returns-in-NoNode c = let s = c.args in check-stale s.d s.mem.now s.id (omega arith) (omega arith) container (sym c.resolve.ensures ∙ c.in-NoNode.is)
+pub returns-in-None : goal.returns-in-None
+returns-in-None c = let s = c.args in check-stale s.d s.mem.now s.id (omega arith) (omega arith) container (sym c.resolve.ensures ∙ c.in-None.is)

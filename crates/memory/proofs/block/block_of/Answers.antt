@@ -5,12 +5,12 @@ use Rattle.layout.specs.Layout.{which_of}
 use Rattle.memory.specs.Decode.{range_loaded}
 use Rattle.memory.proofs.block.block_of.Goals as goal
 
-pub returns-in-Found : goal.returns-in-Found
-returns-in-Found c =
+pub returns-in-Some : goal.returns-in-Some
+returns-in-Some c =
     let a = c.args in
-    c.range_of.ensures ∙ ap (range_loaded (which_of a.arena)) (sym c.in-Found.is ∙ c.load-loaded.ensures)
+    c.range_of.ensures ∙ ap (range_loaded (which_of a.arena)) (sym c.in-Some.is ∙ c.load-loaded.ensures)
 
-pub returns-in-NoNode : goal.returns-in-NoNode
-returns-in-NoNode c =
+pub returns-in-None : goal.returns-in-None
+returns-in-None c =
     let a = c.args in
-    ap (range_loaded (which_of a.arena)) (sym c.in-NoNode.is ∙ c.load-loaded.ensures)
+    ap (range_loaded (which_of a.arena)) (sym c.in-None.is ∙ c.load-loaded.ensures)

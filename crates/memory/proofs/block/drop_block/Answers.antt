@@ -37,9 +37,9 @@ slice_bounds-drop_from-end c =
 
 pub drop_from-requires : goal.drop_from-requires
 drop_from-requires c =
-    drop-asked c.args.d (which_of c.args.arena) c.args.mem.now _ _ c.arena_limit-limit.ensures c.arena_at-start.ensures _ _ c.requires.1
+    rw c.block_in.ensures (drop-asked c.args.d (which_of c.args.arena) c.args.mem.now _ _ c.arena_limit-limit.ensures c.arena_at-start.ensures _ _ c.requires.1)
 
 pub returns : goal.returns
 returns c =
-    let q = drop-told c.args.d (which_of c.args.arena) c.args.mem.now _ _ c.arena_limit-limit.ensures c.arena_at-start.ensures _ _ c.requires.1 _ _ _ (c.drop_from.ensures.by_index, c.drop_from.ensures.by_index_2) in
+    let q = drop-told c.args.d (which_of c.args.arena) c.args.mem.now _ _ c.arena_limit-limit.ensures c.arena_at-start.ensures _ _ c.requires.1 _ _ _ (rw c.block_in.ensures at c.drop_from.ensures.by_index, rw c.block_in.ensures at c.drop_from.ensures.by_index_2) in
     record { value = q.0; mem_after = q.1 }

@@ -37,9 +37,9 @@ slice_bounds-insert_into-end c =
 
 pub insert_into-requires : goal.insert_into-requires
 insert_into-requires c =
-    insert-asked c.args.d (which_of c.args.arena) c.args.mem.now _ _ c.arena_limit-limit.ensures c.arena_at-start.ensures _ _ _ c.arena_used-used.ensures c.requires.1
+    rw c.block_in.ensures (insert-asked c.args.d (which_of c.args.arena) c.args.mem.now _ _ c.arena_limit-limit.ensures c.arena_at-start.ensures _ _ _ c.arena_used-used.ensures c.requires.1)
 
 pub returns : goal.returns
 returns c =
-    let q = insert-told c.args.d (which_of c.args.arena) c.args.mem.now _ _ c.arena_limit-limit.ensures c.arena_at-start.ensures _ _ c.requires.1 _ _ _ c.arena_used-used.ensures _ _ (c.insert_into.ensures.value, c.insert_into.ensures.arena_after) in
+    let q = insert-told c.args.d (which_of c.args.arena) c.args.mem.now _ _ c.arena_limit-limit.ensures c.arena_at-start.ensures _ _ c.requires.1 _ _ _ c.arena_used-used.ensures _ _ (rw c.block_in.ensures at c.insert_into.ensures.value, rw c.block_in.ensures at c.insert_into.ensures.arena_after) in
     record { value = q.0; mem_after = q.1 }

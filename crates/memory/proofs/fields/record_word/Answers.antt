@@ -26,13 +26,13 @@ overflow_add-result-2 c =
     let z = sizes c.args.d (length c.args.mem.now) c.requires.0 in
     omega arith
 
-pub offset_bounds-mem-n : goal.offset_bounds-mem-n
-offset_bounds-mem-n c =
+pub offset_bounds-mem-d : goal.offset_bounds-mem-d
+offset_bounds-mem-d c =
     let z = sizes c.args.d (length c.args.mem.now) c.requires.0 in
     omega arith
 
-pub bounds-mem-n : goal.bounds-mem-n
-bounds-mem-n c =
+pub bounds-mem-d : goal.bounds-mem-d
+bounds-mem-d c =
     let z = sizes c.args.d (length c.args.mem.now) c.requires.0 in
     omega arith
 

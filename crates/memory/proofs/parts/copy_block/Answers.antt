@@ -38,4 +38,4 @@ slice_bounds-copy_block-end c =
 pub returns : goal.returns
 returns c =
     let got = c.copy_block in
-    arena-copied c.args.d c.args.mem.now c.requires.0 (which_of c.args.arena) _ _ c.arena_limit-limit.ensures c.arena_at-start.ensures got.new.arena got.auto.arena _ _ _ got.ensures
+    arena-copied c.args.d c.args.mem.now c.requires.0 (which_of c.args.arena) _ _ c.arena_limit-limit.ensures c.arena_at-start.ensures got.new.arena got.auto.arena _ _ _ (rw c.block_in.ensures at got.ensures)

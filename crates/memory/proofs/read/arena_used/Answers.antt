@@ -6,14 +6,14 @@ use Rattle.memory.proofs.read.arena_used.Goals as goal
 pub returns-in-Children : goal.returns-in-Children
 returns-in-Children c =
     let a = c.args in
-    used-read a.d a.arena _ _ _ c.arena_limit-limit.ensures (rw c.in-Children.is) c.least.ensures
+    used-read a.d a.arena _ _ _ c.arena_limit-limit.ensures (rw c.in-Children.is) c.min.ensures
 
 pub returns-in-Attributes : goal.returns-in-Attributes
 returns-in-Attributes c =
     let a = c.args in
-    used-read a.d a.arena _ _ _ c.arena_limit-limit.ensures (rw c.in-Attributes.is) c.least-in-Attributes.ensures
+    used-read a.d a.arena _ _ _ c.arena_limit-limit.ensures (rw c.in-Attributes.is) c.min-in-Attributes.ensures
 
 pub returns-in-Namespaces : goal.returns-in-Namespaces
 returns-in-Namespaces c =
     let a = c.args in
-    used-read a.d a.arena _ _ _ c.arena_limit-limit.ensures (rw c.in-Namespaces.is) c.least-in-Namespaces.ensures
+    used-read a.d a.arena _ _ _ c.arena_limit-limit.ensures (rw c.in-Namespaces.is) c.min-in-Namespaces.ensures

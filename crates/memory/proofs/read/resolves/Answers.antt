@@ -4,9 +4,9 @@ use native.Mathlib.Omega.{arith}
 use Rattle.memory.proofs.Living.{resolves-past, resolves-other, resolves-same}
 use Rattle.memory.proofs.read.resolves.Goals as goal
 
-pub returns-then-index-made : goal.returns-then-index-made
-returns-then-index-made c =
-    resolves-past c.args.d c.args.mem.now c.args.id (omega arith) (omega arith) _ c.made.ensures c.if-index-made.true
+pub returns-then-id-made : goal.returns-then-id-made
+returns-then-id-made c =
+    resolves-past c.args.d c.args.mem.now c.args.id (omega arith) (omega arith) _ c.made.ensures c.if-id-made.true
 
 pub returns-then-generation-id : goal.returns-then-generation-id
 returns-then-generation-id c =

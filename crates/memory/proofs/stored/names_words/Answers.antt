@@ -6,35 +6,20 @@ use Rattle.layout.proofs.Sizes.{memory-limits}
 use Rattle.memory.proofs.Lent.{ends, names-lent}
 use Rattle.memory.proofs.stored.names_words.Goals as goal
 
-pub names_at-start-requires : goal.names_at-start-requires
-names_at-start-requires c =
+pub names_range-requires : goal.names_range-requires
+names_range-requires c =
     memory-limits c.args.d (length c.args.mem.now) c.requires
 
-pub overflow_mul-end : goal.overflow_mul-end
-overflow_mul-end c =
+pub offset_bounds-mem-names_range : goal.offset_bounds-mem-names_range
+offset_bounds-mem-names_range c =
     let z = ends c.args.d (length c.args.mem.now) c.requires in
-    omega (arith, c.names_at-start.ensures)
-
-pub overflow_add-end : goal.overflow_add-end
-overflow_add-end c =
-    let z = ends c.args.d (length c.args.mem.now) c.requires in
-    omega (arith, c.names_at-start.ensures)
-
-pub overflow_add-end-2 : goal.overflow_add-end-2
-overflow_add-end-2 c =
-    let z = ends c.args.d (length c.args.mem.now) c.requires in
-    omega (arith, c.names_at-start.ensures)
-
-pub offset_bounds-mem-start : goal.offset_bounds-mem-start
-offset_bounds-mem-start c =
-    let z = ends c.args.d (length c.args.mem.now) c.requires in
-    omega (arith, c.names_at-start.ensures)
+    omega (arith, c.names_range.ensures.start)
 
 pub slice_bounds-result-end : goal.slice_bounds-result-end
 slice_bounds-result-end c =
     let z = ends c.args.d (length c.args.mem.now) c.requires in
-    omega (arith, c.names_at-start.ensures)
+    omega (arith, c.names_range.ensures.start, c.names_range.ensures.end)
 
 pub returns : goal.returns
 returns c =
-    names-lent c.args.d c.args.mem.now _ c.names_at-start.ensures
+    names-lent c.args.d c.args.mem.now _ _ c.names_range.ensures.start c.names_range.ensures.end

@@ -1,20 +1,19 @@
 -- `moving::moves::reparent` meets its contract.
 -- Assumes nothing.
+use mathlib.Core.Path.{refl}
 use Rattle.records.specs.Handles.{word_of}
 use Rattle.model.specs.Calls.{reparent}
-use Rattle.editing.proofs.Editing.{opened, undamaged, not-admitted, edits}
+use Rattle.editing.proofs.Editing.{passed_on, unadmitted, unplanned, admits, performs}
 use Rattle.moving.proofs.moves.reparent.Goals as goal
 
-pub reparent_checked-requires : goal.reparent_checked-requires
-reparent_checked-requires c =
-    undamaged c.args.d c.args.mem.now c.args.scratch.now
-    (opened c.args.d c.args.mem.now c.args.scratch.now _ c.in-Accepted.is c.admit.ensures.result_value)
+pub move_last-requires : goal.move_last-requires
+move_last-requires c = admits (reparent (word_of c.args.child) (word_of c.args.parent)) c.args.d c.args.mem.now c.in_ok-admit.ensures.ready.undamaged c.in_ok-plan_move.ensures.result_value
 
-pub returns-in-Refused : goal.returns-in-Refused
-returns-in-Refused c =
-    not-admitted c.args.d c.args.mem.now c.args.scratch.now (reparent (word_of c.args.child) (word_of c.args.parent)) _ _ c.in-Refused.is c.admit.ensures.result_value _ c.admit.ensures.scratch_after
+pub returns-in_err-admit : goal.returns-in_err-admit
+returns-in_err-admit c = rw (passed_on _ _ c.from_residual.ensures.1) (unadmitted (reparent (word_of c.args.child) (word_of c.args.parent)) c.args.d c.args.mem.now c.args.scratch.now _ c.in_err-admit.ensures.result_value _ c.admit.ensures.scratch_after)
 
-pub returns-in-Accepted : goal.returns-in-Accepted
-returns-in-Accepted c =
-    edits c.args.d c.args.mem.now c.args.scratch.now (reparent (word_of c.args.child) (word_of c.args.parent))
-    (opened c.args.d c.args.mem.now c.args.scratch.now _ c.in-Accepted.is c.admit.ensures.result_value) _ _ _ _ c.reparent_checked.ensures c.admit.ensures.scratch_after
+pub returns-in_err-plan_move : goal.returns-in_err-plan_move
+returns-in_err-plan_move c = rw (passed_on _ _ c.from_residual-in_err-plan_move.ensures.1) (unplanned (reparent (word_of c.args.child) (word_of c.args.parent)) c.args.d c.args.mem.now c.args.scratch.now c.in_ok-admit.ensures.result_value _ c.in_err-plan_move.ensures.result_value _ c.admit.ensures.scratch_after)
+
+pub returns : goal.returns
+returns c = performs (reparent (word_of c.args.child) (word_of c.args.parent)) c.args.d c.args.mem.now c.args.scratch.now c.in_ok-admit.ensures.result_value _ _ _ refl c.move_last.ensures _ c.admit.ensures.scratch_after

@@ -2,32 +2,25 @@
 -- Assumes nothing.
 use native.Mathlib.Omega.{arith}
 use Rattle.names.specs.Table.{name}
-use Rattle.names.specs.Words.{table_of}
-use Rattle.names.proofs.Table.{number_of-le}
-use Rattle.names.proofs.Words.{table-names}
-use Rattle.names.proofs.Append.{intern-found, intern-new, room}
+use Rattle.names.proofs.Append.{number-lacked, intern-found, intern-new, room}
 use Rattle.names.proofs.interning.intern.Goals as goal
 
-pub overflow_cast-number : goal.overflow_cast-number
-overflow_cast-number c =
+pub returns-in-Some : goal.returns-in-Some
+returns-in-Some c =
     let a = c.args in
-    let table = table_of a.limits a.counts a.words.now in
-    omega (arith, c.requires.0.names, c.requires.2, c.find_name-k.ensures, number_of-le table (name a.namespace.now a.local.now), table-names a.limits a.counts a.words.now c.requires.0)
+    intern-found a.limits a.counts a.words.now (name a.namespace.now a.local.now) c.requires.0 c.in-Some.k c.in-Some.ensures.1 (omega (arith, c.in-Some.ensures))
 
-pub returns-then-k-counts : goal.returns-then-k-counts
-returns-then-k-counts c =
+pub append_name-counts-requires : goal.append_name-counts-requires
+append_name-counts-requires c =
     let a = c.args in
-    intern-found a.limits a.counts a.words.now (name a.namespace.now a.local.now) c.requires.0 c.find_name-k.result c.find_name-k.ensures (omega arith)
-
-pub append_name-after-requires : goal.append_name-after-requires
-append_name-after-requires c =
-    let a = c.args in
-    let free = room a.limits a.counts a.words.now (name a.namespace.now a.local.now) c.requires.0 c.find_name-k.result c.find_name-k.ensures (omega arith) c.requires.1 in
+    let n = name a.namespace.now a.local.now in
+    let free = room a.limits a.counts a.words.now n c.requires.0 _ (number-lacked a.limits a.counts a.words.now n c.requires.0 c.in_default.ensures) (omega arith) c.requires.1 in
     (c.requires.0, free.0, free.1)
 
 pub returns : goal.returns
 returns c =
     let a = c.args in
-    intern-new a.limits a.counts a.words.now (name a.namespace.now a.local.now) c.requires.0 c.find_name-k.result c.find_name-k.ensures (omega arith)
-    _ _ (room a.limits a.counts a.words.now (name a.namespace.now a.local.now) c.requires.0 c.find_name-k.result c.find_name-k.ensures (omega arith) c.requires.1)
-    c.append_name-after.ensures.0 c.append_name-after.ensures.1
+    let n = name a.namespace.now a.local.now in
+    let e = number-lacked a.limits a.counts a.words.now n c.requires.0 c.in_default.ensures in
+    intern-new a.limits a.counts a.words.now n c.requires.0 _ e (omega arith) _ _ (room a.limits a.counts a.words.now n c.requires.0 _ e (omega arith) c.requires.1)
+    c.append_name-counts.ensures.0 c.append_name-counts.ensures.1

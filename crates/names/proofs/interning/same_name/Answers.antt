@@ -22,17 +22,17 @@ module _ (words namespace local : List ℕ) (at middle end : ℕ) (r : Bool) (e 
       let a : same_bytes namespace (part at (middle - at) words) ≡ true = sym first ∙ t in
       rw a (f ∙ same_bytes-comm (take (end - middle) (drop middle words)) local)
 
-  other : r ≡ false → false ≡ (same_bytes namespace (part at (middle - at) words) && same_bytes local (part middle (end - middle) words))
+  other : r ≡ false → r ≡ (same_bytes namespace (part at (middle - at) words) && same_bytes local (part middle (end - middle) words))
   other t =
       let a : same_bytes namespace (part at (middle - at) words) ≡ false = sym first ∙ t in
-      rw a
+      rw a t
 
 pub returns-then-same_bytes : goal.returns-then-same_bytes
 returns-then-same_bytes c =
     let a = c.args in
     both a.words.now a.namespace.now a.local.now a.at a.middle a.end _ c.same_bytes.ensures _ c.if-same_bytes.true c.same_bytes-then-same_bytes.ensures
 
-pub returns : goal.returns
-returns c =
+pub returns-else-same_bytes : goal.returns-else-same_bytes
+returns-else-same_bytes c =
     let a = c.args in
     other a.words.now a.namespace.now a.local.now a.at a.middle a.end _ c.same_bytes.ensures c.if-same_bytes.false

@@ -1,20 +1,14 @@
 -- `plans::appends::plan_append_text` meets its contract.
 -- Assumes nothing.
-use Rattle.plans.proofs.Appended.{text-parent}
+use mathlib.Core.Path.{sym, ◌∙◌}
 use Rattle.records.specs.Handles.{word_of}
 use Rattle.memory.specs.Decode.{decode}
-use Rattle.verdicts.proofs.Verdicts.{refused-before, accepted-before}
-use Rattle.verdicts.proofs.Refusing.{append-text-number}
+use Rattle.verdicts.proofs.Verdicts.{refused_before, accepted_before}
+use Rattle.verdicts.proofs.Refusing.{append_text_number}
 use Rattle.plans.proofs.appends.plan_append_text.Goals as goal
 
-pub check_append_text-checked-requires : goal.check_append_text-checked-requires
-check_append_text-checked-requires c = c.requires.memory
+pub returns-in_err-check_append_text : goal.returns-in_err-check_append_text
+returns-in_err-check_append_text c = let s = c.args in refused_before _ _ _ _ c.from_residual.ensures.1 c.in_err-check_append_text.ensures ∙ sym (append_text_number (decode s.d s.mem.now) (word_of s.parent) s.text.now)
 
-pub text_node_fits-requires : goal.text_node_fits-requires
-text_node_fits-requires c = record { undamaged = c.requires; id_value = text-parent (decode c.args.d c.args.mem.now) (word_of c.args.parent) _ _ c.is_accepted.ensures c.if-is_accepted.true c.args.text.now c.check_append_text-checked.ensures }
-
-pub returns-then-is_accepted : goal.returns-then-is_accepted
-returns-then-is_accepted c = let s = c.args in append-text-number (decode s.d s.mem.now) _ (word_of s.parent) s.text.now (accepted-before _ _ _ _ c.check_append_text-checked.ensures c.is_accepted.ensures c.if-is_accepted.true _ c.text_node_fits.ensures)
-
-pub returns-else-is_accepted : goal.returns-else-is_accepted
-returns-else-is_accepted c = let s = c.args in append-text-number (decode s.d s.mem.now) _ (word_of s.parent) s.text.now (refused-before _ _ _ _ c.check_append_text-checked.ensures c.is_accepted.ensures c.if-is_accepted.false)
+pub returns : goal.returns
+returns c = let s = c.args in accepted_before _ _ _ c.in_ok-check_append_text.ensures c.text_node_fits.ensures ∙ sym (append_text_number (decode s.d s.mem.now) (word_of s.parent) s.text.now)

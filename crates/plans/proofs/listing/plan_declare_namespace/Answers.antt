@@ -1,18 +1,28 @@
 -- `plans::listing::plan_declare_namespace` meets its contract.
 -- Assumes nothing.
+use Rattle.std.specs.Prelude.{Option}
+use mathlib.Core.Path.{sym, ap, ◌∙◌}
+use Prim.Native.Nat.{ℕ}
 use Rattle.records.specs.Handles.{word_of}
+use Rattle.model.specs.Calls.{declare_namespace_found}
 use Rattle.memory.specs.Decode.{decode}
-use Rattle.plans.proofs.Planned.{not-accepted, declare-refused, declare-planned, declare-live}
+use Rattle.verdicts.specs.Verdicts.{refusal_number}
+use Rattle.verdicts.proofs.Verdicts.{passed_on, refused_before, accepted_before}
+use Rattle.verdicts.proofs.Refusing.{declare_namespace_number}
 use Rattle.plans.proofs.listing.plan_declare_namespace.Goals as goal
 
-pub find_namespace-found-requires : goal.find_namespace-found-requires
-find_namespace-found-requires c = record { undamaged = c.requires; element_value = declare-live (decode c.args.d c.args.mem.now) (word_of c.args.element) c.args.prefix.now c.args.uri.now _ _ c.check_declare_namespace-checked.ensures c.is_accepted.ensures c.if-is_accepted.true }
+pub returns-in_err-check_declare_namespace-clause-verdict_value : goal.returns-in_err-check_declare_namespace-clause-verdict_value
+returns-in_err-check_declare_namespace-clause-verdict_value c = let s = c.args in refused_before _ _ _ _ c.from_residual.ensures.1 c.in_err-check_declare_namespace.ensures ∙ sym (declare_namespace_number (decode s.d s.mem.now) (word_of s.element) s.prefix.now s.uri.now)
 
-pub namespace_fits-verdict-requires : goal.namespace_fits-verdict-requires
-namespace_fits-verdict-requires c = record { undamaged = c.requires; element_value = (declare-live (decode c.args.d c.args.mem.now) (word_of c.args.element) c.args.prefix.now c.args.uri.now _ _ c.check_declare_namespace-checked.ensures c.is_accepted.ensures c.if-is_accepted.true, c.find_namespace-found.ensures) }
+pub returns-in_err-namespace_fits-clause-verdict_value : goal.returns-in_err-namespace_fits-clause-verdict_value
+returns-in_err-namespace_fits-clause-verdict_value c =
+    let s = c.args in
+    accepted_before _ _ _ c.in_ok-check_declare_namespace.ensures
+    (passed_on _ _ c.from_residual-in_err-namespace_fits.ensures.1 ∙ c.in_err-namespace_fits.ensures ∙ ap (λ (f : Option ℕ). refusal_number (declare_namespace_found f (decode s.d s.mem.now) (word_of s.element) s.prefix.now s.uri.now).answer) c.find_namespace-found.ensures)
+    ∙ sym (declare_namespace_number (decode s.d s.mem.now) (word_of s.element) s.prefix.now s.uri.now)
 
-pub returns-then-is_accepted : goal.returns-then-is_accepted
-returns-then-is_accepted c = record { verdict_value = declare-planned (decode c.args.d c.args.mem.now) (word_of c.args.element) c.args.prefix.now c.args.uri.now _ _ c.check_declare_namespace-checked.ensures c.is_accepted.ensures c.if-is_accepted.true c.find_namespace-found.result c.find_namespace-found.ensures _ c.namespace_fits-verdict.ensures; found_value = λ z. c.find_namespace-found.ensures }
-
-pub returns-else-is_accepted : goal.returns-else-is_accepted
-returns-else-is_accepted c = record { verdict_value = declare-refused (decode c.args.d c.args.mem.now) (word_of c.args.element) c.args.prefix.now c.args.uri.now _ _ c.check_declare_namespace-checked.ensures c.is_accepted.ensures c.if-is_accepted.false; found_value = not-accepted _ _ c.is_accepted.ensures c.if-is_accepted.false }
+pub returns-clause-verdict_value : goal.returns-clause-verdict_value
+returns-clause-verdict_value c =
+    let s = c.args in
+    accepted_before _ _ _ c.in_ok-check_declare_namespace.ensures (c.in_ok-namespace_fits.ensures ∙ ap (λ (f : Option ℕ). refusal_number (declare_namespace_found f (decode s.d s.mem.now) (word_of s.element) s.prefix.now s.uri.now).answer) c.find_namespace-found.ensures)
+    ∙ sym (declare_namespace_number (decode s.d s.mem.now) (word_of s.element) s.prefix.now s.uri.now)

@@ -10,9 +10,9 @@ use Rattle.plans.proofs.moves.block_left_fits.Goals as goal
 
 pub room_after_drop-requires : goal.room_after_drop-requires
 room_after_drop-requires c =
-    held-shown c.args.d c.args.mem.now children _ _ _ c.arena_words.ensures c.arena_limit-limit.ensures c.arena_used-used.ensures _ _ c.requires.1
+    rw c.block_in.ensures (held-shown c.args.d c.args.mem.now children _ _ _ c.arena_words.ensures c.arena_limit-limit.ensures c.arena_used-used.ensures _ _ c.requires.1)
 
 pub returns : goal.returns
 returns c =
-    c.room_after_drop.ensures
+    (rw c.block_in.ensures at c.room_after_drop.ensures)
     ∙ ap (λ (a : Arena). has_room_after_removal a (block_of c.args.block) c.args.word) (arena-shown c.args.d c.args.mem.now children _ _ _ c.arena_words.ensures c.arena_limit-limit.ensures c.arena_used-used.ensures)

@@ -11,7 +11,7 @@ pub returns-in-None : goal.returns-in-None
 returns-in-None c = fits-detached c.args.d c.args.mem.now c.requires.undamaged c.args.child c.args.parent c.requires.parent_value.0 _ c.word_of.ensures _ (parent-none (decode c.args.d c.args.mem.now) _ _ c.parent_of.ensures c.in-None.is) c.room_fits.ensures
 
 pub returns-then-old-parent : goal.returns-then-old-parent
-returns-then-old-parent c = fits-same c.args.d c.args.mem.now c.requires.undamaged c.args.child c.args.parent c.requires.parent_value.0 _ c.word_of.ensures _ c.requires.parent_value.1 c.requires.parent_value.2 _ (parent-some (decode c.args.d c.args.mem.now) _ _ _ _ c.parent_of.ensures c.in-Of.is refl) (omega arith) (omega arith) c.if-old-parent.true c.room_left.ensures
+returns-then-old-parent c = fits-same c.args.d c.args.mem.now c.requires.undamaged c.args.child c.args.parent c.requires.parent_value.0 _ c.word_of.ensures _ c.requires.parent_value.1 c.requires.parent_value.2 _ (parent-some (decode c.args.d c.args.mem.now) _ _ _ _ c.parent_of.ensures c.in-Some.is refl) (omega arith) (omega arith) c.if-old-parent.true c.room_left.ensures
 
 pub returns-else-old-parent : goal.returns-else-old-parent
-returns-else-old-parent c = fits-another c.args.d c.args.mem.now c.requires.undamaged c.args.child c.args.parent c.requires.parent_value.0 _ c.word_of.ensures _ c.requires.parent_value.1 c.requires.parent_value.2 _ (parent-some (decode c.args.d c.args.mem.now) _ _ _ _ c.parent_of.ensures c.in-Of.is refl) (omega arith) (omega arith) c.if-old-parent.false c.room_fits-else-old-parent.ensures
+returns-else-old-parent c = fits-another c.args.d c.args.mem.now c.requires.undamaged c.args.child c.args.parent c.requires.parent_value.0 _ c.word_of.ensures _ c.requires.parent_value.1 c.requires.parent_value.2 _ (parent-some (decode c.args.d c.args.mem.now) _ _ _ _ c.parent_of.ensures c.in-Some.is refl) (omega arith) (omega arith) c.if-old-parent.false c.room_fits-else-old-parent.ensures

@@ -11,10 +11,10 @@ use Rattle.lookup.proofs.Blocks.{block_held, block-found, block-stale}
 use Rattle.plans.proofs.moves.room_left.Goals as goal
 
 pub block_left_fits-requires : goal.block_left_fits-requires
-block_left_fits-requires c = block_held c.args.d c.args.mem.now c.args.parent (omega (arith, c.well_formed)) (omega (arith, c.well_formed)) children _ (sym c.resolve.ensures ∙ c.in-Found.is) _ refl c.requires
+block_left_fits-requires c = block_held c.args.d c.args.mem.now c.args.parent (omega (arith, c.well_formed)) (omega (arith, c.well_formed)) children _ (sym c.resolve.ensures ∙ c.in-Some.is) _ refl c.requires
 
-pub returns-in-Found : goal.returns-in-Found
-returns-in-Found c = block-found c.args.d c.args.mem.now c.args.parent (omega (arith, c.well_formed)) (omega (arith, c.well_formed)) children _ (sym c.resolve.ensures ∙ c.in-Found.is) _ refl (λ (b : Block). has_room_after_removal (arena_in c.args.d children c.args.mem.now) b (word_of c.args.child)) _ (rw c.word_of.ensures at c.block_left_fits.ensures)
+pub returns-in-Some : goal.returns-in-Some
+returns-in-Some c = block-found c.args.d c.args.mem.now c.args.parent (omega (arith, c.well_formed)) (omega (arith, c.well_formed)) children _ (sym c.resolve.ensures ∙ c.in-Some.is) _ refl (λ (b : Block). has_room_after_removal (arena_in c.args.d children c.args.mem.now) b (word_of c.args.child)) _ (rw c.word_of.ensures at c.block_left_fits.ensures)
 
-pub returns-in-NoNode : goal.returns-in-NoNode
-returns-in-NoNode c = block-stale c.args.d c.args.mem.now c.args.parent (omega (arith, c.well_formed)) (omega (arith, c.well_formed)) children (λ (b : Block). has_room_after_removal (arena_in c.args.d children c.args.mem.now) b (word_of c.args.child)) (sym c.resolve.ensures ∙ c.in-NoNode.is)
+pub returns-in-None : goal.returns-in-None
+returns-in-None c = block-stale c.args.d c.args.mem.now c.args.parent (omega (arith, c.well_formed)) (omega (arith, c.well_formed)) children (λ (b : Block). has_room_after_removal (arena_in c.args.d children c.args.mem.now) b (word_of c.args.child)) (sym c.resolve.ensures ∙ c.in-None.is)

@@ -1,9 +1,10 @@
 -- `plans::removals::plan_detach` meets its contract.
 -- Assumes nothing.
+use mathlib.Core.Path.{sym, ◌∙◌}
 use Rattle.records.specs.Handles.{word_of}
 use Rattle.memory.specs.Decode.{decode}
-use Rattle.verdicts.proofs.Refusing.{detach-number}
+use Rattle.verdicts.proofs.Refusing.{detach_number}
 use Rattle.plans.proofs.removals.plan_detach.Goals as goal
 
 pub returns : goal.returns
-returns c = let s = c.args in detach-number (decode s.d s.mem.now) _ (word_of s.node) c.a_child.ensures
+returns c = let s = c.args in c.a_child.ensures ∙ sym (detach_number (decode s.d s.mem.now) (word_of s.node))

@@ -8,5 +8,5 @@ use Rattle.plans.proofs.setting.under_root.Goals as goal
 pub returns-in-None : goal.returns-in-None
 returns-in-None c = let s = c.args in no-parent (decode s.d s.mem.now) (word_of s.id) _ c.word_of-word.ensures _ c.parent_of.ensures c.in-None.is
 
-pub returns-in-Of : goal.returns-in-Of
-returns-in-Of c = parent-root (decode c.args.d c.args.mem.now) (word_of c.args.id) _ c.word_of-word.ensures _ c.parent_of.ensures c.requires.undamaged.rules c.requires.id_value _ c.in-Of.is _ c.is_root.ensures
+pub returns-in-Some : goal.returns-in-Some
+returns-in-Some c = parent-root (decode c.args.d c.args.mem.now) (word_of c.args.id) _ c.word_of-word.ensures _ c.parent_of.ensures c.requires.undamaged.rules c.requires.id_value _ c.in-Some.is _ c.is_root.ensures

@@ -4,4 +4,4 @@ use Rattle.productions.proofs.Verdicts.{utf8-checked}
 use Rattle.productions.proofs.checks.is_utf8.Goals as goal
 
 pub returns : goal.returns
-returns c = utf8-checked _ _ _ c.scan.ensures c.is_text.ensures
+returns c = utf8-checked _ _ _ c.scan.ensures c.is_ok.ensures.value

@@ -4,4 +4,4 @@ use Rattle.productions.proofs.Verdicts.{space-tested}
 use Rattle.productions.proofs.checks.is_white_space.Goals as goal
 
 pub returns : goal.returns
-returns c = space-tested _ _ _ c.scan.ensures c.holds.ensures
+returns g c = space-tested _ _ _ c.scan.ensures c.unwrap_or.ensures

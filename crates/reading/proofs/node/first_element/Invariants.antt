@@ -1,16 +1,9 @@
 use mathlib.Core.Path.{◌≡◌}
-use Prim.Native.Nat.{◌+◌, ◌-◌, ◌≤◌}
-use Rattle.words.specs.Parts.{part}
+use lib.ListN.{drop}
 use Rattle.words.specs.Lists.{find}
-use Rattle.model.specs.Kinds.{children}
 use Rattle.model.specs.Doc.{shows_element}
-use Rattle.memory.specs.Decode.{arena_in, decode}
+use Rattle.memory.specs.View.{decoded}
 use Rattle.reading.proofs.node.first_element.Given as goal
 
-abbrev pub invariant-loop-k : goal.invariant-loop-k
-invariant-loop-k l = (l.k ≤ l.len)
-    × (find (shows_element (decode l.d l.mem)) (part l.start l.len (arena_in l.d children l.mem).ids)
-    ≡ find (shows_element (decode l.d l.mem)) (part (l.start + l.k) (l.len - l.k) (arena_in l.d children l.mem).ids))
-
-abbrev pub decreases-loop-k : goal.decreases-loop-k
-decreases-loop-k l = l.len - l.k
+abbrev pub invariant-loop-word : goal.invariant-loop-word
+invariant-loop-word l = find (shows_element (decoded l.view)) l.word-items ≡ find (shows_element (decoded l.view)) (drop l.word-index l.word-items)

@@ -9,4 +9,4 @@ use Rattle.removing.proofs.remove.remove_node.Goals as goal
 pub returns : goal.returns
 returns c =
     let e : length c.do_remove-document.new.scratch ≡ length c.args.scratch.now = search rules in
-    record { step = c.do_remove-document.ensures; scratch_after = c.clear.ensures ∙ ap (λ (n : ℕ). replicate n 0) e }
+    record { step = c.do_remove-document.ensures; scratch_after = c.fill.ensures.after (λ y k. k) ∙ ap (λ (n : ℕ). replicate n 0) e }

@@ -9,9 +9,9 @@ use Rattle.room.proofs.full.block_fits.Goals as goal
 
 pub room_for-requires : goal.room_for-requires
 room_for-requires c =
-    held-shown c.args.d c.args.mem.now (which_of c.args.arena) _ _ _ c.arena_words.ensures c.arena_limit-limit.ensures c.arena_used-used.ensures _ _ c.requires.1
+    rw c.block_in.ensures (held-shown c.args.d c.args.mem.now (which_of c.args.arena) _ _ _ c.arena_words.ensures c.arena_limit-limit.ensures c.arena_used-used.ensures _ _ c.requires.1)
 
 pub returns : goal.returns
 returns c =
-    c.room_for.ensures
+    (rw c.block_in.ensures at c.room_for.ensures)
     ∙ ap (λ (a : Arena). has_room a (block_of c.args.block)) (arena-shown c.args.d c.args.mem.now (which_of c.args.arena) _ _ _ c.arena_words.ensures c.arena_limit-limit.ensures c.arena_used-used.ensures)

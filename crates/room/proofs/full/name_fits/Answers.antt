@@ -4,13 +4,13 @@ use Rattle.names.specs.Table.{name}
 use Rattle.lookup.proofs.Named.{name-asked, name-told}
 use Rattle.room.proofs.full.name_fits.Goals as goal
 
-pub names_words-requires : goal.names_words-requires
-names_words-requires c = c.requires.memory
+pub name_table-requires : goal.name_table-requires
+name_table-requires c = c.requires.memory
 
 pub name_fits-requires : goal.name_fits-requires
 name_fits-requires c =
-    name-asked c.args.d c.args.mem.now c.requires c.name_limits.result c.name_counts.result _ c.name_limits.ensures c.name_counts.ensures c.names_words.ensures
+    name-asked c.args.d c.args.mem.now c.requires _ _ _ c.name_table.ensures.limits c.name_table.ensures.counts c.name_table.ensures.words
 
 pub returns : goal.returns
 returns c =
-    name-told c.args.d c.args.mem.now c.requires c.name_limits.result c.name_counts.result _ c.name_limits.ensures c.name_counts.ensures c.names_words.ensures (name c.args.namespace.now c.args.local.now) _ c.name_fits.ensures
+    name-told c.args.d c.args.mem.now c.requires _ _ _ c.name_table.ensures.limits c.name_table.ensures.counts c.name_table.ensures.words (name c.args.namespace.now c.args.local.now) _ c.name_fits.ensures

@@ -7,7 +7,7 @@ use Rattle.chars.specs.Scan.{verdict_after}
 use Rattle.scanning.proofs.scan.scan.Given as goal
 
 abbrev pub invariant-loop-i : goal.invariant-loop-i
-invariant-loop-i l = verdict_after l.rule Start (decode l.s) ≡ verdict_after l.rule l.state (decode (drop l.i l.s))
+invariant-loop-i g l = let n = g.T.Unit.numbers l.s in verdict_after l.rule Start (decode n) ≡ verdict_after l.rule l.state (decode (drop l.i n))
 
 abbrev pub decreases-loop-i : goal.decreases-loop-i
-decreases-loop-i l = length l.s - l.i
+decreases-loop-i g l = length l.s - l.i

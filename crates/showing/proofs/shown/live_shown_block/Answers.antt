@@ -11,10 +11,12 @@ use Rattle.showing.proofs.shown.live_shown_block.Goals as goal
 pub live_block-block-requires : goal.live_block-block-requires
 live_block-block-requires c =
     let a = c.args in
-    (c.requires.0, live-shown a.d a.mem.now a.id (omega arith) (omega arith) _ refl c.requires.1)
+    let v = a.view.now in
+    live-shown v.document v.words.now a.id (omega arith) (omega arith) _ refl c.requires
 
 pub returns : goal.returns
 returns c =
     let a = c.args in
-    block-shown a.d a.mem.now a.id (omega arith) (omega arith) (which_of a.arena) _ refl c.requires.1
+    let v = a.view.now in
+    block-shown v.document v.words.now a.id (omega arith) (omega arith) (which_of a.arena) _ refl c.requires
     (block_of c.live_block-block.result) _ _ c.live_block-block.ensures c.arena_used.ensures c.within.ensures

@@ -8,9 +8,11 @@ use Rattle.showing.proofs.shown.live_shown_parent.Goals as goal
 pub live_parent-requires : goal.live_parent-requires
 live_parent-requires c =
     let a = c.args in
-    (c.requires.0, live-shown a.d a.mem.now a.id (omega arith) (omega arith) _ refl c.requires.1)
+    let v = a.view.now in
+    live-shown v.document v.words.now a.id (omega arith) (omega arith) _ refl c.requires
 
 pub returns : goal.returns
 returns c =
     let a = c.args in
-    parent-shown a.d a.mem.now a.id (omega arith) (omega arith) _ refl c.requires.1 _ c.live_parent.ensures
+    let v = a.view.now in
+    parent-shown v.document v.words.now a.id (omega arith) (omega arith) _ refl c.requires _ c.live_parent.ensures

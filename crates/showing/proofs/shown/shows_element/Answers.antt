@@ -1,5 +1,6 @@
 -- `showing::shown::shows_element` meets its contract.
 -- Assumes nothing.
+use mathlib.Core.Path.{◌∙◌}
 use native.Mathlib.Omega.{arith}
 use Rattle.showing.proofs.Found.{live-shown, element-shown, element-stale}
 use Rattle.showing.proofs.shown.shows_element.Goals as goal
@@ -7,14 +8,17 @@ use Rattle.showing.proofs.shown.shows_element.Goals as goal
 pub is_element-requires : goal.is_element-requires
 is_element-requires c =
     let a = c.args in
-    (c.requires, live-shown a.d a.mem.now a.id (omega arith) (omega arith) _ c.resolves.ensures c.if-resolves.true)
+    let v = a.view.now in
+    live-shown v.document v.words.now a.id (omega arith) (omega arith) _ c.resolves.ensures c.if-resolves.true
 
 pub returns-then-resolves : goal.returns-then-resolves
 returns-then-resolves c =
     let a = c.args in
-    element-shown a.d a.mem.now a.id (omega arith) (omega arith) _ c.resolves.ensures c.if-resolves.true _ c.is_element.ensures
+    let v = a.view.now in
+    element-shown v.document v.words.now a.id (omega arith) (omega arith) _ c.resolves.ensures c.if-resolves.true _ c.is_element.ensures
 
 pub returns-else-resolves : goal.returns-else-resolves
 returns-else-resolves c =
     let a = c.args in
-    element-stale a.d a.mem.now a.id (omega arith) (omega arith) _ c.resolves.ensures c.if-resolves.false
+    let v = a.view.now in
+    c.if-resolves.false ∙ element-stale v.document v.words.now a.id (omega arith) (omega arith) _ c.resolves.ensures c.if-resolves.false

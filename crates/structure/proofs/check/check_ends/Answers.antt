@@ -1,9 +1,13 @@
 -- `structure::check::check_ends` meets its contract.
 -- Assumes nothing.
+use mathlib.Core.Path.{◌≡◌}
 use native.Mathlib.Omega.{arith}
+use borrow.Author.Rules.{rules}
+use lib.ListN.{length, replicate}
 use Rattle.structure.proofs.Lists.{cleared}
 use Rattle.structure.proofs.check.check_ends.Goals as goal
 
 pub check_paths-requires : goal.check_paths-requires
 check_paths-requires c =
-    record { mem_value = c.requires.mem_value; d_in_bounds = (omega (arith, c.requires.d_in_bounds), cleared c.args.marks.now _ c.clear.ensures) }
+    let e : c.fill.new.self ≡ replicate (length c.args.marks.now) 0 = search rules in
+    record { mem_value = c.requires.mem_value; d_in_bounds = (omega (arith, c.requires.d_in_bounds), cleared c.args.marks.now _ e) }

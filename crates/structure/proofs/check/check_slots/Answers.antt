@@ -6,7 +6,6 @@ use lib.ListN.{length}
 use Rattle.structure.proofs.Claimed.{buffers-memory}
 use Rattle.structure.proofs.Together.{slots-inside}
 use Rattle.structure.proofs.Lists.{ended, decided}
-use Rattle.std.proofs.lemmas.Bool.{not_from_false, not_from_true}
 use Rattle.structure.proofs.check.check_slots.Goals as goal
 
 pub check_fields-requires : goal.check_fields-requires
@@ -15,7 +14,7 @@ check_fields-requires c =
     ok
 
 pub returns-then-not-check_fields : goal.returns-then-not-check_fields
-returns-then-not-check_fields c = ended _ _ _ true c.check_fields.ensures (not_from_false _ c.if-not-check_fields.true)
+returns-then-not-check_fields c = ended _ _ _ true c.check_fields.ensures c.if-not-check_fields.true
 
 pub slice_bounds-check_free_list-end : goal.slice_bounds-check_free_list-end
 slice_bounds-check_free_list-end c =
@@ -27,4 +26,4 @@ check_free_list-requires c =
     (ok, omega (arith, slots-inside c.args.d (length c.args.mem.now) (length c.args.scratch.now) c.requires, c.made-count.ensures))
 
 pub returns : goal.returns
-returns c = decided _ _ _ _ c.check_fields.ensures (not_from_true _ c.if-not-check_fields.false) c.check_free_list.ensures
+returns c = decided _ _ _ _ c.check_fields.ensures c.if-not-check_fields.false c.check_free_list.ensures

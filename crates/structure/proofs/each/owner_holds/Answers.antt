@@ -1,5 +1,6 @@
 -- `structure::each::owner_holds` meets its contract.
 -- Assumes nothing.
+use mathlib.Core.Path.{◌∙◌}
 use Rattle.entries.specs.Nodes.{decode_nodes}
 use Rattle.structure.proofs.Owners.{owner-held, owner-none}
 use Rattle.structure.proofs.each.owner_holds.Goals as goal
@@ -10,4 +11,4 @@ returns-then-is_only_root c =
 
 pub returns-else-is_only_root : goal.returns-else-is_only_root
 returns-else-is_only_root c =
-    owner-none (decode_nodes c.args.d c.args.mem.now) c.args.s c.requires.2 _ c.is_only_root.ensures c.if-is_only_root.false
+    c.if-is_only_root.false ∙ owner-none (decode_nodes c.args.d c.args.mem.now) c.args.s c.requires.2 _ c.is_only_root.ensures c.if-is_only_root.false

@@ -1,11 +1,7 @@
 use mathlib.Core.Path.{◌≡◌}
-use Prim.Native.Nat.{◌-◌}
 use lib.ListN.{length}
 use Rattle.structure.proofs.Turns.{Sofar}
 use Rattle.structure.proofs.each.pass_slots.Given as goal
 
 abbrev pub invariant-loop-s : goal.invariant-loop-s
 invariant-loop-s l = (length l.scratch ≡ length l.initial.scratch) × Sofar l.d l.mem l.scratch l.s
-
-abbrev pub decreases-loop-s : goal.decreases-loop-s
-decreases-loop-s l = l.count - l.s

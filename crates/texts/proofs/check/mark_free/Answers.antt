@@ -1,89 +1,55 @@
 -- `texts::check::mark_free` meets its contract. After k turns the first k entries are counted.
 -- Assumes nothing.
-use mathlib.Core.Path.{◌≡◌, refl, sym, ap, ◌∙◌}
-use mathlib.Core.List.{List}
-use Prim.Native.Nat.{ℕ, ◌+◌, ◌≤◌, ◌<◌}
-use native.Mathlib.Numerals.{add-one}
-use native.Mathlib.Omega.{arith}
-use lib.ListN.{length, get_or, set, length-set}
+use Rattle.std.proofs.Common.{◌≡◌, List, ℕ, ◌+◌, ◌-◌, ◌≤◌, ◌<◌, length, get_or, set, take, drop, sym, ap, ◌∙◌, add-one, arith}
+use lib.Seq.{take-suc, take_all, length-take-le}
 use lib.Dec.{eqb}
 use Rattle.words.specs.Parts.{part}
-use Rattle.words.specs.Lists.{count_of}
-use Rattle.words.proofs.Parts.{part_none, part-snoc, length_part, get_or-part}
+use Rattle.words.proofs.Parts.{lent}
 use Rattle.words.proofs.Lists.{count_of-le}
 use Rattle.texts.specs.Words.{Markable, marked}
 use Rattle.texts.proofs.Lists.{length_marked, marked-at, marked-snoc}
 use Rattle.texts.proofs.check.mark_free.Goals as goal
 
-module _ (words marks₀ marks : List ℕ) (base n k : ℕ) (h : k < n) (f : base + n ≤ length words) (m : Markable (part base n words) marks₀) (inv : marks ≡ marked (part base k words) marks₀) where
-  here : get_or words (base + k) 0 < length marks₀
-  here =
-      let q : get_or (part base n words) k 0 ≡ get_or words (base + k) 0 = get_or-part words base n k 0 h in
-      omega (arith, m.inside k (omega (arith, length_part words base n f)))
+module _ (l marks₀ : List ℕ) (p n : ℕ) (m : Markable (part p n l) marks₀) where
+  -- the stack, as the loop reads it
+  abbrev stack : List ℕ
+  stack = take (p + n - p) (drop p l)
 
-  sized : length marks ≡ length marks₀
-  sized = ap length inv ∙ length_marked (part base k words) marks₀
+  done : (marks : List ℕ) (k : ℕ) → length stack ≤ k → marks ≡ marked (take k stack) marks₀ → marks ≡ marked (part p n l) marks₀
+  done marks k h e = e ∙ ap (λ (r : List ℕ). marked r marks₀) (take_all k stack h ∙ lent l p n)
 
-  fits : get_or marks (get_or words (base + k) 0) 0 + 1 < 18446744073709551616
-  fits =
-      let e : get_or marks (get_or words (base + k) 0) 0 ≡ get_or marks₀ (get_or words (base + k) 0) 0 + count_of (eqb (get_or words (base + k) 0)) (part base k words) =
-      ap (λ (l : List ℕ). get_or l (get_or words (base + k) 0) 0) inv ∙ marked-at (part base k words) marks₀ (get_or words (base + k) 0) here in
-      omega
-      (arith, count_of-le (eqb (get_or words (base + k) 0)) (part base k words), length_part words base k (omega arith), length_part words base n f, m.small (get_or words (base + k) 0))
+  module _ (marks : List ℕ) (k : ℕ) (h : k < length stack) (inv : marks ≡ marked (take k stack) marks₀) where
+    held : Markable stack marks₀
+    held = rw (lent l p n) m
 
-  turn : set marks (get_or words (base + k) 0) (get_or marks (get_or words (base + k) 0) 0 + 1) ≡ marked (part base (k + 1) words) marks₀
-  turn =
-      rw (inv, add-one k)
-      (sym (ap (λ (l : List ℕ). marked l marks₀) (part-snoc words base k 0 (omega arith)) ∙ marked-snoc (part base k words) marks₀ (get_or words (base + k) 0)))
+    here : get_or stack k 0 < length marks
+    here = omega (arith, held.inside k h, ap length inv ∙ length_marked (take k stack) marks₀)
 
-first : (words marks : List ℕ) (base : ℕ) → marks ≡ marked (part base 0 words) marks
-first words marks base = sym (ap (λ (l : List ℕ). marked l marks) (part_none words base))
+    fits : get_or marks (get_or stack k 0) 0 + 1 < 18446744073709551616
+    fits =
+        let s : ℕ = get_or stack k 0 in
+        let e : get_or marks s 0 ≡ get_or (marked (take k stack) marks₀) s 0 = ap (λ (r : List ℕ). get_or r s 0) inv in
+        omega (arith, e, marked-at (take k stack) marks₀ s (held.inside k h), count_of-le (eqb s) (take k stack), length-take-le k stack (omega arith), held.small s)
 
-done : (words marks₀ marks : List ℕ) (base n k : ℕ) → k ≤ n → n ≤ k → marks ≡ marked (part base k words) marks₀ → marks ≡ marked (part base n words) marks₀
-done words marks₀ marks base n k a b e =
-    let q : n ≡ k = omega arith in
-    rw q e
-
-pub loop-k-init : goal.loop-k-init
-loop-k-init c =
-    let a = c.args in
-    (omega arith, refl, first a.words.now a.marks.now a.limits.slots)
+    turn : set marks (get_or stack k 0) (get_or marks (get_or stack k 0) 0 + 1) ≡ marked (take (k + 1) stack) marks₀
+    turn = rw (inv, add-one k) (sym (ap (λ (r : List ℕ). marked r marks₀) (take-suc stack k 0 h) ∙ marked-snoc (take k stack) marks₀ (get_or stack k 0)))
 
 pub offset_bounds-marks-slot : goal.offset_bounds-marks-slot
 offset_bounds-marks-slot c =
-    let loop = c.loop-k in
-    omega (arith, here c.args.words.now c.args.marks.now loop.marks c.args.limits.slots c.args.counts.free loop.k (omega arith) c.requires.free_in_bounds c.requires.markable loop.invariant.2)
+    let loop = c.loop-slot in
+    omega (arith, here _ _ _ _ c.requires.markable _ _ c.loop-slot-test.true loop.invariant)
 
 pub bounds-marks-slot : goal.bounds-marks-slot
-bounds-marks-slot c =
-    let loop = c.loop-k in
-    omega (arith, here c.args.words.now c.args.marks.now loop.marks c.args.limits.slots c.args.counts.free loop.k (omega arith) c.requires.free_in_bounds c.requires.markable loop.invariant.2)
+bounds-marks-slot c = here _ _ _ _ c.requires.markable _ _ c.loop-slot-test.true c.loop-slot.invariant
 
 pub overflow_add-marks : goal.overflow_add-marks
-overflow_add-marks c =
-    let loop = c.loop-k in
-    omega (arith, fits c.args.words.now c.args.marks.now loop.marks c.args.limits.slots c.args.counts.free loop.k (omega arith) c.requires.free_in_bounds c.requires.markable loop.invariant.2)
+overflow_add-marks c = omega (arith, fits _ _ _ _ c.requires.markable _ _ c.loop-slot-test.true c.loop-slot.invariant)
 
-pub offset_bounds-marks-slot-in-loop-k : goal.offset_bounds-marks-slot-in-loop-k
-offset_bounds-marks-slot-in-loop-k c =
-    let loop = c.loop-k in
-    omega (arith, here c.args.words.now c.args.marks.now loop.marks c.args.limits.slots c.args.counts.free loop.k (omega arith) c.requires.free_in_bounds c.requires.markable loop.invariant.2)
+pub bounds-marks-slot-in-loop-slot : goal.bounds-marks-slot-in-loop-slot
+bounds-marks-slot-in-loop-slot c = here _ _ _ _ c.requires.markable _ _ c.loop-slot-test.true c.loop-slot.invariant
 
-pub bounds-marks-slot-in-loop-k : goal.bounds-marks-slot-in-loop-k
-bounds-marks-slot-in-loop-k c =
-    let loop = c.loop-k in
-    omega (arith, here c.args.words.now c.args.marks.now loop.marks c.args.limits.slots c.args.counts.free loop.k (omega arith) c.requires.free_in_bounds c.requires.markable loop.invariant.2)
-
-pub loop-k-preserved : goal.loop-k-preserved
-loop-k-preserved c =
-    let loop = c.loop-k in
-    (omega arith, simp length-set loop.invariant.1, turn c.args.words.now c.args.marks.now loop.marks c.args.limits.slots c.args.counts.free loop.k (omega arith) c.requires.free_in_bounds c.requires.markable loop.invariant.2)
-
-pub shape_of-marks : goal.shape_of-marks
-shape_of-marks c = c.loop-k.invariant.1
+pub loop-slot-preserved : goal.loop-slot-preserved
+loop-slot-preserved c = turn _ _ _ _ c.requires.markable _ _ c.loop-slot-test.true c.loop-slot.invariant
 
 pub returns : goal.returns
-returns c =
-    let a = c.args in
-    let loop = c.loop-k in
-    done a.words.now a.marks.now loop.marks a.limits.slots a.counts.free loop.k loop.invariant.0 c.loop-k-test.false loop.invariant.2
+returns c = done _ _ _ _ c.requires.markable _ _ c.loop-slot-test.false c.loop-slot.invariant

@@ -1,12 +1,6 @@
-use mathlib.Core.Path.{◌≡◌}
-use Prim.Native.Nat.{◌-◌, ◌≤◌}
-use lib.ListN.{length}
-use Rattle.words.specs.Parts.{part}
+use Rattle.std.proofs.Common.{◌≡◌, take}
 use Rattle.texts.specs.Words.{marked}
 use Rattle.texts.proofs.check.mark_free.Given as goal
 
-abbrev pub invariant-loop-k : goal.invariant-loop-k
-invariant-loop-k l = (l.k ≤ l.n) × (length l.marks ≡ length l.initial.marks) × (l.marks ≡ marked (part l.base l.k l.words) l.initial.marks)
-
-abbrev pub decreases-loop-k : goal.decreases-loop-k
-decreases-loop-k l = l.n - l.k
+abbrev pub invariant-loop-slot : goal.invariant-loop-slot
+invariant-loop-slot l = l.marks ≡ marked (take l.slot-index l.slot-items) l.initial.marks

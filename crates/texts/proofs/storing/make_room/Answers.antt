@@ -5,7 +5,9 @@ use mathlib.Core.List.{List}
 use Prim.Native.Nat.{ℕ, ◌+◌, ◌-◌, ◌≤◌, ◌<◌}
 use native.Mathlib.Omega.{arith}
 use lib.ListN.{get_or}
+use Rattle.std.specs.List.{copy_within}
 use Rattle.words.specs.Parts.{part, put}
+use Rattle.words.proofs.Parts.{copied}
 use Rattle.words.specs.declared.ends.Place.{Place}
 use Rattle.words.specs.Ends.{start_of, length_of}
 use Rattle.texts.specs.Words.{bytes_at, Counted, start_at, Movable, ends_moved, bytes_moved, roomed}
@@ -29,24 +31,24 @@ module _ (limits : TextLimits) (counts : TextCounts) (words : List ℕ) (slot st
   room = λ i. record { start = bytes_at limits + e i; len = held i }
 
   module _ (len : ℕ) where
-    bytes-moved : (moved : List ℕ)
-        → moved
-        ≡ put (bytes_at limits + start + len) (part (bytes_at limits + start + (get_or words slot 0 - start)) (counts.bytes - start - (get_or words slot 0 - start)) words) words
-        → moved ≡ bytes_moved limits counts words slot len
+    -- the bytes behind the text, copied to behind its new end
+    abbrev Copied : List ℕ → Type 0
+    Copied moved =
+        moved ≡ copy_within words (bytes_at limits + start + (get_or words slot 0 - start)) (bytes_at limits + counts.bytes) (bytes_at limits + start + len)
+
+    bytes-moved : (moved : List ℕ) → Copied moved → moved ≡ bytes_moved limits counts words slot len
     unfolding bytes_moved
     bytes-moved moved q =
         q
+        ∙ copied words (bytes_at limits + start + (get_or words slot 0 - start)) (bytes_at limits + counts.bytes) (counts.bytes - start - (get_or words slot 0 - start)) (bytes_at limits + start + len)
+        (omega (arith, begins)) (omega (arith, h.size, h.bytes))
         ∙ (λ i. put (bytes_at limits + e i + len) (part (bytes_at limits + e i + held i) (counts.bytes - e i - held i) words) words)
 
-    movable : counts.bytes + len ≤ limits.bytes + length_of words slot → limits.bytes < 18446744073709551616 → (moved : List ℕ)
-        → moved
-        ≡ put (bytes_at limits + start + len) (part (bytes_at limits + start + (get_or words slot 0 - start)) (counts.bytes - start - (get_or words slot 0 - start)) words) words
+    movable : counts.bytes + len ≤ limits.bytes + length_of words slot → limits.bytes < 18446744073709551616 → (moved : List ℕ) → Copied moved
         → Movable moved slot (counts.slots - slot) (get_or words slot 0 - start) len
     movable f w moved q = rw (bytes-moved moved q, held) (ends-movable limits counts words h slot m len f w)
 
-    done : (moved after : List ℕ)
-        → moved
-        ≡ put (bytes_at limits + start + len) (part (bytes_at limits + start + (get_or words slot 0 - start)) (counts.bytes - start - (get_or words slot 0 - start)) words) words
+    done : (moved after : List ℕ) → Copied moved
         → after ≡ ends_moved moved slot (counts.slots - slot) (get_or words slot 0 - start) len → after ≡ roomed limits counts words slot len
     unfolding roomed
     done moved after q g =
@@ -61,8 +63,8 @@ overflow_sub-old c =
     let told = c.piece_start-start in
     omega (arith, begins a.limits a.counts a.words.now a.slot.0 told.result c.requires.0 c.requires.1 told.ensures)
 
-pub overflow_add-at-2 : goal.overflow_add-at-2
-overflow_add-at-2 c =
+pub overflow_add-at : goal.overflow_add-at
+overflow_add-at c =
     let a = c.args in
     let told = c.piece_start-start in
     omega (arith, begins a.limits a.counts a.words.now a.slot.0 told.result c.requires.0 c.requires.1 told.ensures)
@@ -71,19 +73,7 @@ pub overflow_add-at-then-old-len : goal.overflow_add-at-then-old-len
 overflow_add-at-then-old-len c =
     let a = c.args in
     let told = c.piece_start-start in
-    omega (arith, begins a.limits a.counts a.words.now a.slot.0 told.result c.requires.0 c.requires.1 told.ensures)
-
-pub overflow_sub-used : goal.overflow_sub-used
-overflow_sub-used c =
-    let a = c.args in
-    let told = c.piece_start-start in
-    omega (arith, begins a.limits a.counts a.words.now a.slot.0 told.result c.requires.0 c.requires.1 told.ensures)
-
-pub overflow_sub-used-then-old-len : goal.overflow_sub-used-then-old-len
-overflow_sub-used-then-old-len c =
-    let a = c.args in
-    let told = c.piece_start-start in
-    omega (arith, begins a.limits a.counts a.words.now a.slot.0 told.result c.requires.0 c.requires.1 told.ensures)
+    omega (arith, begins a.limits a.counts a.words.now a.slot.0 told.result c.requires.0 c.requires.1 told.ensures, held a.limits a.counts a.words.now a.slot.0 told.result c.requires.0 c.requires.1 told.ensures)
 
 pub overflow_add-at-then-old-len-2 : goal.overflow_add-at-then-old-len-2
 overflow_add-at-then-old-len-2 c =
@@ -91,8 +81,14 @@ overflow_add-at-then-old-len-2 c =
     let told = c.piece_start-start in
     omega (arith, begins a.limits a.counts a.words.now a.slot.0 told.result c.requires.0 c.requires.1 told.ensures, held a.limits a.counts a.words.now a.slot.0 told.result c.requires.0 c.requires.1 told.ensures)
 
-pub shift-requires : goal.shift-requires
-shift-requires c =
+pub copy_within-requires-clause-start_le_end : goal.copy_within-requires-clause-start_le_end
+copy_within-requires-clause-start_le_end c =
+    let a = c.args in
+    let told = c.piece_start-start in
+    omega (arith, begins a.limits a.counts a.words.now a.slot.0 told.result c.requires.0 c.requires.1 told.ensures)
+
+pub copy_within-requires-clause-dest_in_bounds : goal.copy_within-requires-clause-dest_in_bounds
+copy_within-requires-clause-dest_in_bounds c =
     let a = c.args in
     let told = c.piece_start-start in
     omega (arith, begins a.limits a.counts a.words.now a.slot.0 told.result c.requires.0 c.requires.1 told.ensures, held a.limits a.counts a.words.now a.slot.0 told.result c.requires.0 c.requires.1 told.ensures)
@@ -101,13 +97,13 @@ pub move_ends-requires : goal.move_ends-requires
 move_ends-requires c =
     let a = c.args in
     let told = c.piece_start-start in
-    movable a.limits a.counts a.words.now a.slot.0 told.result c.requires.0 c.requires.1 told.ensures a.len c.requires.2 (omega arith) c.shift.new.words c.shift.ensures
+    movable a.limits a.counts a.words.now a.slot.0 told.result c.requires.0 c.requires.1 told.ensures a.len c.requires.2 (omega arith) _ c.copy_within.ensures.after
 
 pub returns-then-old-len : goal.returns-then-old-len
 returns-then-old-len c =
     let a = c.args in
     let told = c.piece_start-start in
-    record { value = room a.limits a.counts a.words.now a.slot.0 told.result c.requires.0 c.requires.1 told.ensures; words_after = done a.limits a.counts a.words.now a.slot.0 told.result c.requires.0 c.requires.1 told.ensures a.len c.shift.new.words _ c.shift.ensures c.move_ends.ensures }
+    record { value = room a.limits a.counts a.words.now a.slot.0 told.result c.requires.0 c.requires.1 told.ensures; words_after = done a.limits a.counts a.words.now a.slot.0 told.result c.requires.0 c.requires.1 told.ensures a.len _ _ c.copy_within.ensures.after c.move_ends.ensures }
 
 pub returns-else-old-len : goal.returns-else-old-len
 returns-else-old-len c =

@@ -1,121 +1,33 @@
--- `texts::storing::move_ends` meets its contract. After k turns the first k ends are moved, and the others are as they were.
+-- `texts::storing::move_ends` meets its contract.
 -- Assumes nothing.
-use mathlib.Core.Path.{◌≡◌, refl, sym, ap, ◌∙◌}
-use mathlib.Core.List.{List, [], ◌∷◌, ◌++◌, map}
-use Prim.Native.Nat.{ℕ, ◌+◌, ◌-◌, ◌≤◌, ◌<◌}
-use native.Mathlib.Numerals.{add-one}
-use native.Mathlib.Omega.{arith}
-use lib.ListN.{length, get_or, set, length-map, length-set}
+use Rattle.std.proofs.Common.{◌≡◌, List, ℕ, ◌+◌, ◌-◌, ◌≤◌, ◌<◌, ◌++◌, length, get_or, set, map, take, drop, sym, ap, ◌∙◌, arith}
+use Rattle.std.proofs.lemmas.List.Edits.{map_over_more}
+use Rattle.std.proofs.lemmas.Grind.{get_or_default_zero}
+use mathlib.Core.List.{append-nil}
+use lib.ListN.{length-map, drop_of_length-le}
+use lib.Seq.{take_all}
+use borrow.Rule.Slice.PartMut.{put_mid}
 use Rattle.words.specs.Parts.{part, put}
-use Rattle.words.proofs.Parts.{part_none, part-snoc, length_part, put-nil, get_or-put-after, set-put-after}
-use Rattle.words.proofs.Lists.{map-append}
 use Rattle.words.specs.Ends.{moved_end}
-use Rattle.texts.specs.Words.{Movable, ends_moved}
+use Rattle.words.proofs.Parts.{length_part, lent, returned}
+use Rattle.texts.specs.Words.{ends_moved}
 use Rattle.texts.proofs.storing.move_ends.Goals as goal
 
-module _ (words₀ words : List ℕ) (slot n old len k : ℕ) (p : Movable words₀ slot n old len) (h : k < n)
-    (inv : words ≡ put slot (map (moved_end old len) (part slot k words₀)) words₀) where
-  size : length (map (moved_end old len) (part slot k words₀)) ≡ k
-  size = length-map (part slot k words₀) (moved_end old len) ∙ length_part words₀ slot k (omega (arith, p.inside))
+done : (f : ℕ → ℕ) (l ys xs : List ℕ) (p n k : ℕ) → p + n ≤ length l → xs ≡ part p n l → length xs ≤ k → ys ≡ map f (take k xs) ++ drop k xs → put_mid p (p + n - p) l ys ≡ put p (map f (part p n l)) l
+done f l ys xs p n k h e b inv =
+    let all : ys ≡ map f xs = inv ∙ rw (take_all k xs b, drop_of_length-le xs {i = k} b) (append-nil (map f xs)) in
+    let m : length (map f (part p n l)) ≡ n = length-map (part p n l) f ∙ length_part l p n h in
+    ap (put_mid p (p + n - p) l) (all ∙ ap (map f) e) ∙ returned l (map f (part p n l)) p n m
 
-  -- the next end is as it was
-  here : get_or words (slot + k) 0 ≡ get_or words₀ (slot + k) 0
-  here =
-      ap (λ (l : List ℕ). get_or l (slot + k) 0) inv
-      ∙ get_or-put-after words₀ slot (map (moved_end old len) (part slot k words₀)) (slot + k) 0 (omega (arith, size)) (omega (arith, p.inside))
+turn : (f : ℕ → ℕ) (xs ys : List ℕ) (k : ℕ) → k < length ys → length ys ≡ length xs → ys ≡ map f (take k xs) ++ drop k xs → set ys k (f (get_or ys k 0)) ≡ map f (take (k + 1) xs) ++ drop (k + 1) xs
+turn f xs ys k h e inv = map_over_more f xs ys k (get_or ys k 0) (omega arith) inv (sym (get_or_default_zero ys k (get_or ys k 0) h))
 
-  fits : (old ≤ get_or words (slot + k) 0) × (get_or words (slot + k) 0 - old + len < 18446744073709551616)
-  fits = (omega (arith, here, p.low k h), omega (arith, here, p.small k h))
-
-  turn : set words (slot + k) (get_or words (slot + k) 0 - old + len) ≡ put slot (map (moved_end old len) (part slot (k + 1) words₀)) words₀
-  unfolding moved_end
-  turn =
-      let f = moved_end old len in
-      let e : map f (part slot k words₀) ++ (f (get_or words₀ (slot + k) 0) ∷ []) ≡ map f (part slot (k + 1) words₀) =
-      sym (ap (λ (i : ℕ). map f (part slot i words₀)) (add-one k)
-      ∙ ap (map f) (part-snoc words₀ slot k 0 (omega (arith, p.inside)))
-      ∙ map-append f (part slot k words₀) (get_or words₀ (slot + k) 0 ∷ [])) in
-      ap (λ (v : ℕ). set words (slot + k) (v - old + len)) here
-      ∙ ap (λ (l : List ℕ). set l (slot + k) (f (get_or words₀ (slot + k) 0))) inv
-      ∙ ap (λ (i : ℕ). set (put slot (map f (part slot k words₀)) words₀) (slot + i) (f (get_or words₀ (slot + k) 0))) (sym size)
-      ∙ set-put-after words₀ slot (map f (part slot k words₀)) (f (get_or words₀ (slot + k) 0)) (omega (arith, size, p.inside))
-      ∙ ap (λ (l : List ℕ). put slot l words₀) e
-
-first : (words : List ℕ) (slot old len : ℕ) → words ≡ put slot (map (moved_end old len) (part slot 0 words)) words
-first words slot old len =
-    sym (ap (λ (l : List ℕ). put slot (map (moved_end old len) l) words) (part_none words slot) ∙ put-nil words slot [])
-
-done : (words₀ words : List ℕ) (slot n old len k : ℕ) → k ≤ n → n ≤ k → words ≡ put slot (map (moved_end old len) (part slot k words₀)) words₀
-    → words ≡ ends_moved words₀ slot n old len
-unfolding ends_moved
-done words₀ words slot n old len k a b e =
-    let q : n ≡ k = omega arith in
-    rw q e
-
-pub loop-k-init : goal.loop-k-init
-loop-k-init c =
-    let a = c.args in
-    (omega arith, refl, first a.words.now a.at a.old a.len)
-
-pub overflow_add-words : goal.overflow_add-words
-overflow_add-words c =
-    let a = c.args in
-    let loop = c.loop-k in
-    omega (arith, c.requires.inside)
-
-pub offset_bounds-words-at : goal.offset_bounds-words-at
-offset_bounds-words-at c =
-    let a = c.args in
-    let loop = c.loop-k in
-    omega (arith, c.requires.inside)
-
-pub bounds-words-at : goal.bounds-words-at
-bounds-words-at c =
-    let a = c.args in
-    let loop = c.loop-k in
-    omega (arith, c.requires.inside)
-
-pub overflow_sub-words : goal.overflow_sub-words
-overflow_sub-words c =
-    let a = c.args in
-    let loop = c.loop-k in
-    omega (arith, (fits a.words.now loop.words a.at a.n a.old a.len loop.k c.requires (omega arith) loop.invariant.2).0)
-
-pub overflow_add-words-in-loop-k : goal.overflow_add-words-in-loop-k
-overflow_add-words-in-loop-k c =
-    let a = c.args in
-    let loop = c.loop-k in
-    omega (arith, (fits a.words.now loop.words a.at a.n a.old a.len loop.k c.requires (omega arith) loop.invariant.2).1)
-
-pub overflow_add-words-in-loop-k-2 : goal.overflow_add-words-in-loop-k-2
-overflow_add-words-in-loop-k-2 c =
-    let a = c.args in
-    let loop = c.loop-k in
-    omega (arith, c.requires.inside)
-
-pub offset_bounds-words-at-in-loop-k : goal.offset_bounds-words-at-in-loop-k
-offset_bounds-words-at-in-loop-k c =
-    let a = c.args in
-    let loop = c.loop-k in
-    omega (arith, c.requires.inside)
-
-pub bounds-words-at-in-loop-k : goal.bounds-words-at-in-loop-k
-bounds-words-at-in-loop-k c =
-    let a = c.args in
-    let loop = c.loop-k in
-    omega (arith, c.requires.inside)
-
-pub loop-k-preserved : goal.loop-k-preserved
-loop-k-preserved c =
-    let a = c.args in
-    let loop = c.loop-k in
-    (omega arith, simp length-set loop.invariant.1, turn a.words.now loop.words a.at a.n a.old a.len loop.k c.requires (omega arith) loop.invariant.2)
-
-pub shape_of-words : goal.shape_of-words
-shape_of-words c = c.loop-k.invariant.1
+pub loop-end-preserved : goal.loop-end-preserved
+unfolding moved_end
+loop-end-preserved c = turn (moved_end c.args.old c.args.len) _ _ _ (omega arith) (omega arith) c.loop-end.invariant
 
 pub returns : goal.returns
+unfolding ends_moved
 returns c =
     let a = c.args in
-    let loop = c.loop-k in
-    done a.words.now loop.words a.at a.n a.old a.len loop.k loop.invariant.0 c.loop-k-test.false loop.invariant.2
+    done (moved_end a.old a.len) a.words.now _ _ a.at a.n _ c.requires.inside (lent a.words.now a.at a.n) c.loop-end-test.false c.loop-end.invariant

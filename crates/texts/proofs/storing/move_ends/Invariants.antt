@@ -1,13 +1,6 @@
-use mathlib.Core.Path.{◌≡◌}
-use mathlib.Core.List.{map}
-use Prim.Native.Nat.{◌-◌, ◌≤◌}
-use lib.ListN.{length}
-use Rattle.words.specs.Parts.{part, put}
+use Rattle.std.proofs.Common.{◌≡◌, ◌++◌, map, take, drop}
 use Rattle.words.specs.Ends.{moved_end}
 use Rattle.texts.proofs.storing.move_ends.Given as goal
 
-abbrev pub invariant-loop-k : goal.invariant-loop-k
-invariant-loop-k l = (l.k ≤ l.n) × (length l.words ≡ length l.initial.words) × (l.words ≡ put l.at (map (moved_end l.old l.len) (part l.at l.k l.initial.words)) l.initial.words)
-
-abbrev pub decreases-loop-k : goal.decreases-loop-k
-decreases-loop-k l = l.n - l.k
+abbrev pub invariant-loop-end : goal.invariant-loop-end
+invariant-loop-end l = l.end-items ≡ map (moved_end l.old l.len) (take l.end-index l.initial.end-items) ++ drop l.end-index l.initial.end-items

@@ -1,0 +1,5 @@
+use Rattle.names.proofs.Search.{Reached, Left}
+use Rattle.names.proofs.NameTable.find_name.Given as goal
+
+abbrev pub invariant-loop-k : goal.invariant-loop-k
+invariant-loop-k l = Reached l.base l.n l.words l.k l.at × Left l.base l.n l.words l.namespace l.local l.k

@@ -1,9 +1,0 @@
-use Prim.Native.Nat.{◌-◌}
-use Rattle.names.proofs.Search.{Reached, Left}
-use Rattle.names.proofs.interning.find_name.Given as goal
-
-abbrev pub invariant-loop-k : goal.invariant-loop-k
-invariant-loop-k l = Reached l.base l.n l.words l.k l.at × Left l.base l.n l.words l.namespace l.local l.k
-
-abbrev pub decreases-loop-k : goal.decreases-loop-k
-decreases-loop-k l = l.n - l.k

@@ -1,7 +1,0 @@
--- `productions::checks::is_white_space_words` meets its contract.
--- Assumes nothing.
-use Rattle.productions.proofs.Verdicts.{space-tested}
-use Rattle.productions.proofs.checks.is_white_space_words.Goals as goal
-
-pub returns : goal.returns
-returns c = space-tested _ _ _ c.scan_words.ensures c.holds.ensures

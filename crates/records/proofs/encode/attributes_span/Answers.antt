@@ -1,6 +1,0 @@
--- `records::encode::attributes_span` meets its contract.
--- Assumes nothing.
-use Rattle.records.proofs.encode.attributes_span.Goals as goal
-
-pub returns-in-Element : goal.returns-in-Element
-returns-in-Element c = rw (c.in-Element.is, c.span_of.ensures)
