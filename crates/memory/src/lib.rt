@@ -1,4 +1,5 @@
-// The lent memory of a document: what its words mean, the cuts of its regions, and reading and writing steps over the whole buffer.
+// The lent memory of a document: what its words mean, the cuts of its regions, reading and writing steps over the whole buffer, and the view that test 4
+// makes of it.
 #![tactic(auto)]
 
 pub mod block;

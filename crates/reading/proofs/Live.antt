@@ -14,7 +14,7 @@ use borrow.Author.Tests.{leb-true}
 use Rattle.words.specs.Parts.{part, put}
 use Rattle.words.specs.Lists.{joined, tabulate}
 use Rattle.words.proofs.Parts.{put-nil, set-put, part-put-same}
-use Rattle.words.proofs.Tests.{and_left, and_right}
+use Rattle.words.proofs.Tests.{and_right}
 use Rattle.words.proofs.Joined.{joined-append}
 use Rattle.slots.specs.Regions.{generation_at}
 use Rattle.model.specs.Doc.{Doc, live_slot, handle_at, live_nodes}
@@ -24,9 +24,7 @@ use Rattle.layout.specs.Layout.{memory_ok}
 use Rattle.memory.specs.Decode.{slots_part, slots_made, pool_in, names_in, lengths_add, decode}
 use Rattle.memory.proofs.Columns.{length-gens, handle-in}
 use Rattle.memory.proofs.Living.{live-wide}
-use Rattle.std.specs.Prelude.{Ok, Err}
-use Rattle.model.specs.declared.Refusal.{Refusal}
-use Rattle.model.specs.declared.Refusal.TheVariants.{BadBuffers}
+use Rattle.std.specs.Prelude.{Ok}
 use Rattle.reading.specs.Nodes.{live_entry}
 use Rattle.reading.specs.Contract.{nodes_ok, NodesRead}
 use Rattle.reading.proofs.Lists.{put-append}
@@ -129,20 +127,14 @@ module _ (d : Document) (mem : List ℕ) where
 
   -- ---- the call
   module _ (out : List ℕ) where
-    pub nodes-room : nodes_ok d mem out ≡ true → (memory_ok d (length mem) ≡ true) × (d.limits.nodes ≤ length out)
-    nodes-room y = (
-      and_left (memory_ok d (length mem)) (leb d.limits.nodes (length out)) y,
-      leb-true _ _ (and_right (memory_ok d (length mem)) (leb d.limits.nodes (length out)) y),
-    )
-
-    pub nodes-refused : (why : Refusal) → (nodes_ok d mem out ≡ false) × (why ≡ BadBuffers) → NodesRead d mem out out (Err why)
-    nodes-refused why f = record { answer = rw (f.0, f.1) refl; buffer = rw f.0 refl }
+    nodes-room : nodes_ok d mem out ≡ true → d.limits.nodes ≤ length out
+    nodes-room y = leb-true _ _ (and_right (memory_ok d (length mem)) (leb d.limits.nodes (length out)) y)
 
     pub nodes-written : (after : List ℕ) → nodes_ok d mem out ≡ true → (n : ℕ) → (n ≡ length (live_nodes (decode d mem))) × (after ≡ put 0 (live_nodes (decode d mem)) out) → NodesRead d mem out after (Ok n)
     unfolding part
     nodes-written after y n q =
         let L = live_nodes (decode d mem) in
-        let room = (nodes-room y).1 in
+        let room = nodes-room y in
         let front : take n after ≡ L = rw (q.0, q.1) (part-put-same out 0 L (omega arith)) in
         record {
           answer = ap every_node front ∙ sym (rw y);
