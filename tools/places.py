@@ -141,7 +141,8 @@ def point5():
     facts = [('memory_ok d (length mem', r'memory_ok d \(length mem'), ('Undamaged d mem', r'Undamaged d mem'), ('buffers_ok d (length mem', r'buffers_ok d \(length mem'),
              ('length words ≡ bytes_at limits + limits.bytes', r'length words\.\w+ ≡ bytes_at limits \+ limits\.bytes'), ('slots_words n ≤ length words', r'slots_words n ≤ length words'),
              ('length arena ≡ limit + limit', r'length arena\.\w+ ≡ limit \+ limit'), ('Held arena limit used start len', r'Held arena'),
-             ('scratch.old ≡ replicate (length scratch.old) 0', r'scratch\.old ≡ replicate')]
+             ('scratch.old ≡ replicate (length scratch.old) 0', r'scratch\.old ≡ replicate'),
+             ('scratch_words (limits_of .. limits) ≤ length scratch', r'scratch_words \(limits_of'), ('limits_ok (limits_of .. limits)', r'limits_ok \(limits_of')]
     for label, pattern in facts:
         n = [(p, l, f) for p, l, f, s, c, b in functions() if any(re.search(pattern, x) for x in c if x.startswith('requires'))]
         if len(n) > 2:

@@ -8,6 +8,7 @@ use editing::admission::admit;
 use edits::append::do_append_comment;
 use edits::born::NewNode;
 use layout::Document;
+use memory::lent::Lent;
 use model::Refusal;
 use plans::appends::plan_append_comment;
 use records::NodeId;
@@ -23,7 +24,15 @@ pub fn append_comment(
 ) -> Result<NewNode, Refusal>
     ensures { Edits (append-comment (word_of parent) text.now) d mem.old scratch.old (of_made result) (after_made d result) mem.new scratch.new }
 {
-    admit(d, &mem[..], scratch)?;
-    plan_append_comment(d, &mem[..], parent, text)?;
-    Ok(do_append_comment(d, mem, parent, text))
+    let doc = admit(d, mem, scratch)?;
+    plan_append_comment(&doc, parent, text)?;
+    let mut lent = Lent {
+        document: d,
+        words: mem,
+    };
+    let id = do_append_comment(&mut lent, parent, text);
+    Ok(NewNode {
+        document: lent.document,
+        id,
+    })
 }

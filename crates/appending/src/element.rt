@@ -8,7 +8,9 @@ use editing::admission::admit;
 use edits::append::do_append_element;
 use edits::born::NewNode;
 use layout::Document;
+use memory::lent::Lent;
 use model::Refusal;
+use names::ExpandedName;
 use plans::appends::plan_append_element;
 use records::NodeId;
 
@@ -23,7 +25,16 @@ pub fn append_element(
 ) -> Result<NewNode, Refusal>
     ensures { Edits (append-element (word_of parent) namespace.now local.now) d mem.old scratch.old (of_made result) (after_made d result) mem.new scratch.new }
 {
-    admit(d, &mem[..], scratch)?;
-    plan_append_element(d, &mem[..], parent, namespace, local)?;
-    Ok(do_append_element(d, mem, parent, namespace, local))
+    let name = ExpandedName { namespace, local };
+    let doc = admit(d, mem, scratch)?;
+    plan_append_element(&doc, parent, name)?;
+    let mut lent = Lent {
+        document: d,
+        words: mem,
+    };
+    let id = do_append_element(&mut lent, parent, name);
+    Ok(NewNode {
+        document: lent.document,
+        id,
+    })
 }

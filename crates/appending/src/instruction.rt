@@ -8,12 +8,12 @@ use editing::admission::admit;
 use edits::append::do_append_pi;
 use edits::born::NewNode;
 use layout::Document;
+use memory::lent::Lent;
 use model::Refusal;
 use plans::appends::plan_append_pi;
 use records::NodeId;
 
 // Rules out a target that is xml in any case, and the content stored before the target.
-// Stays: one call for it and `append_element` would be given the plan, the step and, in its clause, the call; each is these three lines.
 pub fn append_pi(
     d: Document,
     mem: &mut [u64],
@@ -24,7 +24,15 @@ pub fn append_pi(
 ) -> Result<NewNode, Refusal>
     ensures { Edits (append-pi (word_of parent) target.now content.now) d mem.old scratch.old (of_made result) (after_made d result) mem.new scratch.new }
 {
-    admit(d, &mem[..], scratch)?;
-    plan_append_pi(d, &mem[..], parent, target, content)?;
-    Ok(do_append_pi(d, mem, parent, target, content))
+    let doc = admit(d, mem, scratch)?;
+    plan_append_pi(&doc, parent, target, content)?;
+    let mut lent = Lent {
+        document: d,
+        words: mem,
+    };
+    let id = do_append_pi(&mut lent, parent, target, content);
+    Ok(NewNode {
+        document: lent.document,
+        id,
+    })
 }

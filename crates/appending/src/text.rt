@@ -8,6 +8,7 @@ use editing::admission::admit;
 use edits::append::do_append_text;
 use edits::born::NewNode;
 use layout::Document;
+use memory::lent::Lent;
 use model::Refusal;
 use plans::appends::plan_append_text;
 use records::NodeId;
@@ -22,7 +23,15 @@ pub fn append_text(
 ) -> Result<NewNode, Refusal>
     ensures { Edits (append-text (word_of parent) text.now) d mem.old scratch.old (of_made result) (after_made d result) mem.new scratch.new }
 {
-    admit(d, &mem[..], scratch)?;
-    plan_append_text(d, &mem[..], parent, text)?;
-    Ok(do_append_text(d, mem, parent, text))
+    let doc = admit(d, mem, scratch)?;
+    plan_append_text(&doc, parent, text)?;
+    let mut lent = Lent {
+        document: d,
+        words: mem,
+    };
+    let id = do_append_text(&mut lent, parent, text);
+    Ok(NewNode {
+        document: lent.document,
+        id,
+    })
 }

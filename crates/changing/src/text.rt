@@ -7,6 +7,7 @@ ghost use Rattle.editing.specs.Answers.{of_done, after_done};
 use editing::admission::admit;
 use edits::replace::do_set_text;
 use layout::Document;
+use memory::lent::Lent;
 use model::Refusal;
 use plans::setting::plan_set_text;
 use records::NodeId;
@@ -21,7 +22,12 @@ pub fn set_text(
 ) -> Result<Document, Refusal>
     ensures { Edits (set-text (word_of id) text.now) d mem.old scratch.old (of_done result) (after_done d result) mem.new scratch.new }
 {
-    admit(d, &mem[..], scratch)?;
-    plan_set_text(d, &mem[..], id, text)?;
-    Ok(do_set_text(d, mem, id, text))
+    let doc = admit(d, mem, scratch)?;
+    plan_set_text(&doc, id, text)?;
+    let mut lent = Lent {
+        document: d,
+        words: mem,
+    };
+    do_set_text(&mut lent, id, text);
+    Ok(lent.document)
 }

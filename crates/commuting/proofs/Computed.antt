@@ -27,7 +27,7 @@ use Rattle.model.specs.Tree.{seed}
 use Rattle.model.specs.Tree as tree
 use Rattle.layout.specs.Layout.{arena_at, texts_at, names_at}
 use Rattle.memory.specs.Decode.{decode, counts_within, lengths_add}
-use Rattle.editing.specs.Contract.{is_editing, scratch_after}
+use Rattle.editing.specs.Contract.{is_editing}
 use Rattle.tree.specs.Claim.{Event, Tells}
 use Rattle.commuting.specs.Moves.{independent}
 use Rattle.commuting.specs.Example.{limits, counted, fours, laid, three_nodes, event, handles, zone_made, inner_made, register, zone_move, inner_move, zone_earlier, inner_later, inner_earlier, zone_later}

@@ -2,7 +2,7 @@
 -- Assumes nothing.
 use mathlib.Core.Path.{◌≡◌, refl, sym, ap, ◌∙◌, subst}
 use mathlib.Core.Logic.{inl}
-use mathlib.Core.Bool.{Bool, true, false, true≢false}
+use mathlib.Core.Bool.{Bool, true, true≢false}
 use mathlib.Core.List.{List, []}
 use Prim.Native.Nat.{ℕ}
 use native.Mathlib.Omega.{arith}
@@ -20,7 +20,7 @@ use Rattle.tree.proofs.Startable.{start-done}
 use Rattle.tree.proofs.Theorem.{Stands, sound, one-event, fresh-stands, stands_after}
 use Rattle.commuting.specs.Moves.{Move, call_of}
 use Rattle.commuting.specs.EitherOrder.{InOrder, Renewal}
-use Rattle.commuting.specs.Example.{limits, counted, event, handles, zone_made, inner_made, register, zone_move, inner_move, zone_earlier, inner_later, inner_earlier, zone_later, Example}
+use Rattle.commuting.specs.Example.{limits, counted, handles, zone_made, inner_made, register, zone_move, inner_move, zone_earlier, inner_later, inner_earlier, zone_later, Example}
 use Rattle.commuting.proofs.Events.{went}
 use Rattle.commuting.proofs.Theorem.{either_order}
 use Rattle.commuting.proofs.Computed.{begun, zone_first_renewed, inner_first_renewed, Steps, computed}

@@ -11,22 +11,22 @@ use Rattle.blocks.specs.Arena.{arena_of}
 use Rattle.blocks.proofs.Copies.{decoded-copied}
 use Rattle.model.specs.Kinds.{Which, children, attributes, namespaces}
 use Rattle.model.specs.Doc.{Doc, change_arenas, change_current, change_fits}
+use Rattle.model.specs.Rules.{Rules}
 use Rattle.model.specs.Edits.{Laying, laying, rebuild_arenas, renew_order, order_of}
 use Rattle.model.specs.Calls.{compact, done}
 use Rattle.layout.specs.declared.Document.{Document}
 use Rattle.layout.specs.declared.Limits as given
-use Rattle.layout.specs.Layout.{limits_of, entries_of, document_words, memory_ok, buffers_ok}
+use Rattle.layout.specs.Layout.{limits_of, entries_of, document_words, memory_ok}
 use Rattle.memory.specs.Decode.{counts_within, arena_part, arena_used, slots_made, document_of, pool_in, names_in, lengths_add, decode}
 use Rattle.layout.specs.Record.{used_of, renewed}
 use Rattle.memory.specs.Step.{Step}
 use Rattle.memory.specs.Performed.{Performed}
-use Rattle.memory.specs.Undamaged.{Undamaged}
 use Rattle.memory.proofs.Columns.{length-gens}
 use Rattle.memory.proofs.Counted.{counts-fit, fit-counts}
 use Rattle.memory.proofs.Shaped.{length-arena_part, length_ids, shape}
 use Rattle.memory.proofs.Kept.{decode-kept}
 use Rattle.walks.specs.Order.{Walkable, put_orders}
-use Rattle.walks.proofs.Cleared.{buffers-memory, renewed-step}
+use Rattle.walks.proofs.Cleared.{renewed-step}
 use Rattle.compaction.specs.declared.copy.Lengths.{Lengths}
 use Rattle.compaction.specs.Copies.{length_of, counts_rebuilt, with_blocks, arenas_replaced, lengths_rebuilt, rebuilt_below, TreesLaid}
 use Rattle.compaction.proofs.Nodes.{length-is}
@@ -52,7 +52,7 @@ module _ (d : Document) (o mem : List ℕ) (used : Lengths) (T : TreesLaid d o m
   length-laid : (w : Which) → length_of used w ≡ (laying (decode d o) w).arena.used
   length-laid w = length-is d o mem used (layings D (rebuilt_below D (slots_made d))) T.copies w ∙ ap (λ (l : Laying). l.arena.used) (laid-all w)
 
-  pub laid-ok : memory_ok d (length mem) ≡ true
+  laid-ok : memory_ok d (length mem) ≡ true
   laid-ok = ap (memory_ok d) T.copies.size ∙ T.memory
 
   pub laid-fits : (w : Which) → length_of used w ≤ entries_of d.limits w
@@ -132,26 +132,21 @@ module _ (d : Document) (o mem : List ℕ) (used : Lengths) (T : TreesLaid d o m
 
 -- ---- the order renewed
 
-module _ (d : Document) (mem scratch : List ℕ) (buffers : buffers_ok d (length mem) (length scratch) ≡ true) (U : Undamaged d mem)
-    (r : Document) (mem₁ scratch₁ : List ℕ) (S : Step d mem r mem₁ (rebuild_arenas (decode d mem))) (same : length scratch₁ ≡ length scratch) where
-  pub rebuilt-buffers : buffers_ok r (length mem₁) (length scratch₁) ≡ true
-  unfolding buffers_ok memory_ok
-  rebuilt-buffers = rw (S.limits, S.size, same) buffers
-
+module _ (d : Document) (mem : List ℕ) (ok : memory_ok d (length mem) ≡ true) (R : Rules (decode d mem)) (r : Document) (mem₁ : List ℕ) (S : Step d mem r mem₁ (rebuild_arenas (decode d mem))) where
   pub rebuilt-walkable : Walkable (decode r mem₁)
   rebuilt-walkable =
       subst Walkable (sym S.document)
-      (walkable-rebuilt (decode d mem) U.rules (shape (pool_in d mem) (names_in d mem) (lengths_add d mem) d mem U.memory) (made-few d mem U.memory))
+      (walkable-rebuilt (decode d mem) R (shape (pool_in d mem) (names_in d mem) (lengths_add d mem) d mem ok) (made-few d mem ok))
 
-  pub compacted : (r' : Document) (mem₂ : List ℕ) → r' ≡ renewed r → mem₂ ≡ put_orders r (order_of (decode r mem₁)) mem₁ → Performed compact d mem done r' mem₂
-  compacted r' mem₂ e q =
-      let R = renewed-step r mem₁ (buffers-memory r (length mem₁) (length scratch₁) rebuilt-buffers) r' mem₂ e q in
+  pub compacted : memory_ok r (length mem₁) ≡ true → (r' : Document) (mem₂ : List ℕ) → r' ≡ renewed r → mem₂ ≡ put_orders r (order_of (decode r mem₁)) mem₁ → Performed compact d mem done r' mem₂
+  compacted ok₁ r' mem₂ e q =
+      let N = renewed-step r mem₁ ok₁ r' mem₂ e q in
       record {
         answer = refl;
         change = record {
-          document = R.document ∙ ap renew_order S.document;
-          limits = R.limits ∙ S.limits;
-          size = R.size ∙ S.size;
-          past = subst (λ (l : given.Limits). drop (document_words (limits_of l)) mem₂ ≡ drop (document_words (limits_of l)) mem₁) S.limits R.past ∙ S.past;
+          document = N.document ∙ ap renew_order S.document;
+          limits = N.limits ∙ S.limits;
+          size = N.size ∙ S.size;
+          past = subst (λ (l : given.Limits). drop (document_words (limits_of l)) mem₂ ≡ drop (document_words (limits_of l)) mem₁) S.limits N.past ∙ S.past;
         };
       }

@@ -123,7 +123,7 @@ module _ (d : Document) (mem : List ℕ) (w : Which) (s : ℕ) (used : Lengths) 
       arena-size : length mem₁ ≡ length mem
       arena-size = ap length C.memory ∙ length-put_arena d mem C.words L.memory w C.long
 
-      pub arena-ok : memory_ok d (length mem₁) ≡ true
+      arena-ok : memory_ok d (length mem₁) ≡ true
       arena-ok = memory_kept d mem mem₁ arena-size L.memory
 
       slots_same : slots_part d mem₁ ≡ slots_part d mem

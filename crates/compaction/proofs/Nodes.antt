@@ -5,7 +5,7 @@ use mathlib.Core.Bool.{Bool, true, false, cond}
 use mathlib.Core.List.{List}
 use Prim.Native.Nat.{ℕ}
 use native.Mathlib.Omega.{arith}
-use lib.ListN.{length, get_or}
+use lib.ListN.{get_or}
 use Rattle.words.specs.Parts.{part}
 use Rattle.blocks.specs.Arena.{Arena, Block, block}
 use Rattle.blocks.specs.Compact.{copied}
@@ -119,12 +119,6 @@ module _ (d : Document) (mem : List ℕ) (h : ℕ) (used : Lengths) (N : NodeLay
   children-layable = subst (λ (k : ℕ). Layable d mem children k used.children) (sym e) (N children refl)
 
   module _ (m₁ : List ℕ) (u₁ : Lengths) (C₁ : Copies d mem m₁ u₁ (list_laid (decode d mem) (copies_in d mem used) children s)) where
-    pub first-ok : memory_ok d (length m₁) ≡ true
-    first-ok = ap (memory_ok d) C₁.size ∙ children-layable.memory
-
-    pub first_live : live_slot (decode d m₁) s ≡ true
-    first_live = live-kept d mem m₁ u₁ (list_laid D A children s) C₁ s ∙ children-layable.live
-
     module _ (t : Bool) (q : t ≡ is_element (kind_in (decode d m₁) s)) where
       kind-is : t ≡ is_element (kind_at (decode d mem) h)
       kind-is = q ∙ ap is_element (kind-kept d mem m₁ u₁ (list_laid D A children s) C₁ s) ∙ ap (λ (k : ℕ). is_element (kind_in D k)) e

@@ -99,8 +99,3 @@ module _ (d : Document) (used : Lengths) (fits : (w : Which) → length_of used 
         each A B C namespaces =
             C.here
             ∙ ap (λ (x : List ℕ). arena_words (copied (entries_of d.limits namespaces) (length_of used namespaces) x)) (B.other namespaces refl ∙ A.other namespaces refl)
-
--- one arena after another
-pub three-replaced : (d : Document) (mem : List ℕ) (used : Lengths) (m₁ m₂ m₃ : List ℕ) → m₁ ≡ arena_replaced d children used mem → m₂ ≡ arena_replaced d attributes used m₁ → m₃ ≡ arena_replaced d namespaces used m₂
-    → m₃ ≡ arenas_replaced d used mem
-three-replaced d mem used m₁ m₂ m₃ e f g = g ∙ ap (arena_replaced d namespaces used) (f ∙ ap (arena_replaced d attributes used) e)

@@ -1,15 +1,14 @@
 -- The walk over the tree of a slot as the code does it: the trees before may have been laid of any document.
 -- Assumes nothing.
 use Rattle.std.specs.List.{slice_get}
-use Rattle.std.specs.Prelude.{Option, None, Some}
+use Rattle.std.specs.Prelude.{None, Some}
 use mathlib.Core.Path.{◌≡◌, refl, sym, ap, ◌∙◌, subst}
-use mathlib.Core.Bool.{Bool, true, false, ◌&&◌, false≢true}
+use mathlib.Core.Bool.{Bool, true, false, ◌&&◌}
 use mathlib.Core.List.{List}
 use Prim.Native.Nat.{ℕ, ◌+◌, ◌-◌, ◌≤◌, ◌<◌}
 use native.Mathlib.Omega.{arith}
 use native.Mathlib.Numerals.{add-one}
 use lib.ListN.{length, set, replicate}
-use Rattle.words.proofs.Tests.{and_left, and_right}
 use Rattle.blocks.specs.Compact.{copied}
 use Rattle.blocks.proofs.Copies.{copied_none}
 use Rattle.records.specs.Handles.{handle_index}
@@ -25,7 +24,7 @@ use Rattle.memory.proofs.Shaped.{length-arena_part, length_ids, length-caps}
 use Rattle.walks.specs.Order.{ListHeld}
 use Rattle.walks.specs.Stack.{Stacked, stacked, pushed, popped}
 use Rattle.compaction.specs.declared.copy.Lengths.{Lengths}
-use Rattle.compaction.specs.Copies.{length_of, no_lengths, copies_in, Copies, NodeLayable, node_laid, NodesEven, TreesLaid, TreeAhead, NextLaid}
+use Rattle.compaction.specs.Copies.{length_of, no_lengths, copies_in, Copies, NodeLayable, node_laid, TreesLaid, TreeAhead, NextLaid}
 use Rattle.compaction.proofs.Growing as growing
 use Rattle.compaction.proofs.Growing.{FromRules, Growing, Started, made-few}
 use Rattle.compaction.proofs.MetNodes.{rebuilt-skip}
@@ -35,12 +34,6 @@ use Rattle.compaction.proofs.Layings.{layings}
 module _ (d : Document) (o mem : List ℕ) (s : ℕ) (used : Lengths) (T : TreesLaid d o mem s used) where
   abbrev pub from-rules : FromRules d o
   from-rules = record { memory = T.memory; rules = T.rules }
-
-  pub trees-ok : memory_ok d (length mem) ≡ true
-  trees-ok = ap (memory_ok d) T.copies.size ∙ T.memory
-
-  pub nodes-even : NodesEven (decode d mem)
-  nodes-even = subst NodesEven (sym T.copies.document) T.rules.fields.nodes
 
   pub live-before : live_slot (decode d mem) s ≡ live_slot (decode d o) s
   live-before = ap (λ (x : Doc). live_slot x s) T.copies.document
@@ -103,19 +96,6 @@ module _ (d : Document) (mem₀ words : List ℕ) (s : ℕ) (laid₀ : Lengths) 
         (sym (live-before d o mem₀ s laid₀ A) ∙ T.live) (sym (parent-before d o mem₀ s laid₀ A) ∙ T.top)
 
 -- ---- slot by slot
-
-none_of : (o : Option ℕ) → is_none o ≡ true → o ≡ None
-none_of None e = refl
-none_of (Some p) e = absurd (false≢true e)
-
-module _ (d : Document) (o mem : List ℕ) (s : ℕ) (used : Lengths) (T : TreesLaid d o mem s used) (t : Bool) (q : t ≡ (live_slot (decode d mem) s && is_none (parent_in (decode d mem) s))) where
-  pub tree-ahead : t ≡ true → TreeAhead d mem s used
-  tree-ahead y = record {
-    origin = o;
-    trees = T;
-    live = and_left (live_slot (decode d mem) s) (is_none (parent_in (decode d mem) s)) (sym q ∙ y);
-    top = none_of (parent_in (decode d mem) s) (and_right (live_slot (decode d mem) s) (is_none (parent_in (decode d mem) s)) (sym q ∙ y));
-  }
 
 -- a slot without a tree
 pub no-tree : (d : Document) (mem : List ℕ) (s : ℕ) (used : Lengths) → s < slots_made d → (t : Bool) → t ≡ (live_slot (decode d mem) s && is_none (parent_in (decode d mem) s)) → t ≡ false

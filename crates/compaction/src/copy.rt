@@ -1,13 +1,11 @@
 // Lists copied behind one another into the capacity words of their arenas, each with its owner's new range.
 ghost use Rattle.std.specs.Prelude.{◌≡◌};
 ghost use Rattle.layout.specs.Layout.{which_of};
-ghost use Rattle.memory.specs.Decode.{decode};
+ghost use Rattle.memory.specs.Lent.{document_in, Becomes};
 ghost use Rattle.compaction.specs.Copies.{length_of, with_length, copies_in, Copies, Layable, NodeLayable, list_laid, node_laid};
 
-use layout::{Arena, Document};
-use memory::fields::{is_element, live_block};
-use memory::parts::copy_block;
-use memory::write::put_range;
+use layout::Arena;
+use memory::lent::Lent;
 use records::Range;
 use walks::order::slot_of;
 use words::NodeSlot;
@@ -54,31 +52,33 @@ impl Lengths {
 }
 
 // Lays a node's list; the lengths then.
-fn lay_list(d: Document, mem: &mut [u64], slot: NodeSlot, arena: Arena, used: Lengths) -> Lengths
-    requires { Layable d mem.old (which_of arena) slot.0 (length_of used (which_of arena)) }
-    ensures { Copies d mem.old mem.new result (list_laid (decode d mem.old) (copies_in d mem.old used) (which_of arena) slot.0) }
+fn lay_list(lent: &mut Lent<'_>, slot: NodeSlot, arena: Arena, used: Lengths) -> Lengths
+    requires { Layable lent.old.document lent.old.words.now (which_of arena) slot.0 (length_of used (which_of arena)) }
+    ensures copies { Copies lent.old.document lent.old.words.now lent.new.words.now result (list_laid (document_in lent.old) (copies_in lent.old.document lent.old.words.now used) (which_of arena) slot.0) }
+    ensures lent_after { Becomes lent.old lent.new lent.old.document lent.new.words.now }
 {
-    let block = live_block(d, &mem[..], slot, arena);
+    let block = lent.view().live_block(slot, arena);
     let start = used.of(arena);
-    copy_block(d, mem, arena, start, block);
+    lent.copy_block(arena, start, block);
     let range = Range {
         start: start as u32,
         len: block.len,
     };
-    put_range(d, mem, slot, arena, range);
+    lent.put_range(slot, arena, range);
     used.with(arena, start + block.len as usize)
 }
 
 // Lays the lists of the node of a handle: attributes and namespaces only elements have.
-pub fn lay_node(d: Document, mem: &mut [u64], word: u64, used: Lengths) -> Lengths
-    requires { NodeLayable d mem.old word used }
-    ensures { Copies d mem.old mem.new result (node_laid (decode d mem.old) (copies_in d mem.old used) word) }
+pub fn lay_node(lent: &mut Lent<'_>, word: u64, used: Lengths) -> Lengths
+    requires { NodeLayable lent.old.document lent.old.words.now word used }
+    ensures copies { Copies lent.old.document lent.old.words.now lent.new.words.now result (node_laid (document_in lent.old) (copies_in lent.old.document lent.old.words.now used) word) }
+    ensures lent_after { Becomes lent.old lent.new lent.old.document lent.new.words.now }
 {
     let slot = slot_of(word);
-    let children = lay_list(d, mem, slot, Arena::Children, used);
-    if is_element(d, &mem[..], slot) {
-        let attributes = lay_list(d, mem, slot, Arena::Attributes, children);
-        lay_list(d, mem, slot, Arena::Namespaces, attributes)
+    let children = lay_list(lent, slot, Arena::Children, used);
+    if lent.view().is_element(slot) {
+        let attributes = lay_list(lent, slot, Arena::Attributes, children);
+        lay_list(lent, slot, Arena::Namespaces, attributes)
     } else {
         children
     }

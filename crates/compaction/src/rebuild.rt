@@ -1,27 +1,25 @@
 // The arenas rebuilt, and the call `compact` after its plan.
-ghost use Rattle.std.specs.Prelude.{◌≡◌, true, ◌≤◌, length};
+ghost use Rattle.std.specs.Prelude.{◌≡◌, ◌≤◌, length};
 ghost use Rattle.model.specs.Kinds.{Which};
 ghost use Rattle.model.specs.Rules.{Rules};
 ghost use Rattle.model.specs.Edits.{rebuild_arenas};
 ghost use Rattle.model.specs.Calls.{compact, done};
-ghost use Rattle.layout.specs.Layout.{which_of, entries_of, memory_ok, buffers_ok};
-ghost use Rattle.memory.specs.Decode.{decode};
-ghost use Rattle.memory.specs.Undamaged.{Undamaged};
-ghost use Rattle.memory.specs.Step.{Step};
-ghost use Rattle.memory.specs.Performed.{Performed};
+ghost use Rattle.layout.specs.Layout.{which_of, limits_of, entries_of, scratch_words};
+ghost use Rattle.memory.specs.Lent.{document_in, Becomes, Stepped, Performs};
 ghost use Rattle.compaction.specs.Copies.{length_of, arena_replaced, arenas_replaced, lengths_rebuilt};
 
 use crate::copy::Lengths;
 use crate::trees::lay_trees;
 use layout::{Arena, Document};
+use memory::lent::Lent;
 use walks::order::renew_order;
 
 // The copies in an arena replace the ids.
-fn replace_blocks(d: Document, mem: &mut [u64], arena: Arena, used: Lengths)
-    requires { (memory_ok d (length mem.old) ≡ true) × (length_of used (which_of arena) ≤ entries_of d.limits (which_of arena)) }
-    ensures { mem.new ≡ arena_replaced d (which_of arena) used mem.old }
+fn replace_blocks(lent: &mut Lent<'_>, arena: Arena, used: Lengths)
+    requires { length_of used (which_of arena) ≤ entries_of lent.old.document.limits (which_of arena) }
+    ensures { Becomes lent.old lent.new lent.old.document (arena_replaced lent.old.document (which_of arena) used lent.old.words.now) }
 {
-    memory::parts::replace_blocks(d, mem, arena, used.of(arena));
+    lent.replace_blocks(arena, used.of(arena));
 }
 
 // The record with the new lengths of the arenas.
@@ -32,30 +30,30 @@ fn with_lengths(d: Document, used: Lengths) -> Document
 }
 
 // The copies in all arenas replace the ids.
-fn replace_arenas(d: Document, mem: &mut [u64], used: Lengths)
-    requires { (memory_ok d (length mem.old) ≡ true) × ((w : Which) → length_of used w ≤ entries_of d.limits w) }
-    ensures { mem.new ≡ arenas_replaced d used mem.old }
+fn replace_arenas(lent: &mut Lent<'_>, used: Lengths)
+    requires { (w : Which) → length_of used w ≤ entries_of lent.old.document.limits w }
+    ensures { Becomes lent.old lent.new lent.old.document (arenas_replaced lent.old.document used lent.old.words.now) }
 {
-    replace_blocks(d, mem, Arena::Children, used);
-    replace_blocks(d, mem, Arena::Attributes, used);
-    replace_blocks(d, mem, Arena::Namespaces, used);
+    replace_blocks(lent, Arena::Children, used);
+    replace_blocks(lent, Arena::Attributes, used);
+    replace_blocks(lent, Arena::Namespaces, used);
 }
 
 // The arenas rebuilt from the nodes without a parent, in slot order. Scratch holds the stack.
-pub fn rebuild_arenas(d: Document, mem: &mut [u64], scratch: &mut [u64]) -> Document
-    requires { (buffers_ok d (length mem.old) (length scratch.old) ≡ true) × Rules (decode d mem.old) }
-    ensures { Step d mem.old result mem.new (rebuild_arenas (decode d mem.old)) }
+pub fn rebuild_arenas(lent: &mut Lent<'_>, scratch: &mut [u64])
+    requires { (scratch_words (limits_of lent.old.document.limits) ≤ length scratch.old) × Rules (document_in lent.old) }
+    ensures { Stepped lent.old lent.new (rebuild_arenas (document_in lent.old)) }
 {
-    let used = lay_trees(d, mem, scratch);
-    replace_arenas(d, mem, used);
-    with_lengths(d, used)
+    let used = lay_trees(lent, scratch);
+    replace_arenas(lent, used);
+    lent.put_record(with_lengths(lent.document, used));
 }
 
 // The call: arenas rebuilt, and the order renewed.
-pub fn do_compact(d: Document, mem: &mut [u64], scratch: &mut [u64]) -> Document
-    requires { (buffers_ok d (length mem.old) (length scratch.old) ≡ true) × Undamaged d mem.old }
-    ensures { Performed compact d mem.old done result mem.new }
+pub fn do_compact(lent: &mut Lent<'_>, scratch: &mut [u64])
+    requires { (scratch_words (limits_of lent.old.document.limits) ≤ length scratch.old) × Rules (document_in lent.old) }
+    ensures { Performs compact lent.old lent.new done }
 {
-    let rebuilt = rebuild_arenas(d, mem, scratch);
-    renew_order(rebuilt, mem, scratch)
+    rebuild_arenas(lent, scratch);
+    renew_order(lent, scratch);
 }

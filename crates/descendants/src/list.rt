@@ -12,7 +12,6 @@ use memory::view::View;
 use model::Refusal;
 use reading::buffers::listing_view;
 use records::NodeId;
-use records::handle::{id_of, word_of};
 use steps::position::start;
 use steps::step::successor;
 
@@ -25,7 +24,7 @@ fn write_live(view: &View<'_>, zone: u64, out: &mut [u64]) -> usize
     let nodes = view.document.limits.nodes;
     let mut at = start(nodes, zone);
     for count in 0..nodes {
-        let Some(next) = successor(view, at, id_of(at.node)) else {
+        let Some(next) = successor(view, at, NodeId::from(at.node)) else {
             return count;
         };
         out[count] = next.node;
@@ -40,7 +39,7 @@ fn write_below(view: &View<'_>, id: NodeId, out: &mut [u64]) -> usize
     ensures out_after { out.new ≡ put 0 (walked (decoded view.now) (word_of id)) out.old }
 {
     if view.resolves(id) {
-        write_live(view, word_of(id), out)
+        write_live(view, u64::from(id), out)
     } else {
         0
     }

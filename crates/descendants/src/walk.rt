@@ -7,7 +7,6 @@ use layout::Document;
 use memory::view::View;
 use model::Refusal;
 use records::NodeId;
-use records::handle::word_of;
 use steps::position::{Position, start};
 use steps::step::step;
 
@@ -17,7 +16,7 @@ pub fn descendants_of(d: Document, mem: &[u64], id: NodeId) -> Result<Position, 
     ensures { result ≡ starts_of d mem.now (word_of id) }
 {
     View::of(d, mem)?;
-    Ok(start(d.limits.nodes, word_of(id)))
+    Ok(start(d.limits.nodes, u64::from(id)))
 }
 
 // A position at the next node of a walk, or that there is none.

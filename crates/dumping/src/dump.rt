@@ -1,5 +1,6 @@
 // The whole state, region by region.
 use layout::{Arena, Document};
+use memory::view::View;
 use printing::show::Shown;
 use printing::sink::{Handle, Joined, Numbers, Sink, Span};
 use records::{Node, NodeData, NodeId, Range};
@@ -90,11 +91,9 @@ fn put_node(shown: Shown<'_>, node: Node, out: &mut Sink<'_>) -> fmt::Result {
 
 // The node in a slot, with its generation even.
 fn node_at(d: Document, mem: &[u64], slot: NodeSlot, generation: u64) -> Option<Node> {
-    if generation % 2 == 0
-        && layout::memory_ok(d, mem.len())
-        && (slot.0 as usize) < d.limits.nodes
-    {
-        return memory::read::load(d, mem, slot);
+    let view = View::of(d, mem).ok()?;
+    if generation % 2 == 0 && (slot.0 as usize) < d.limits.nodes {
+        return view.load(slot);
     }
     None
 }

@@ -1,7 +1,7 @@
--- Tests 4 and 5 as they are made, and what was then found.
+-- What tests 4 and 5 found, once they are passed.
 -- Assumes nothing.
 use mathlib.Core.Path.{◌≡◌, sym, ap, ◌∙◌}
-use mathlib.Core.Bool.{true, false}
+use mathlib.Core.Bool.{true}
 use mathlib.Core.List.{List}
 use Prim.Native.Nat.{ℕ}
 use lib.ListN.{length, replicate, length-replicate}
@@ -13,29 +13,16 @@ use Rattle.layout.specs.Layout.{memory_ok, buffers_ok}
 use Rattle.memory.specs.Decode.{pool_in, names_in, lengths_add, decode}
 use Rattle.memory.specs.Undamaged.{Undamaged}
 use Rattle.memory.proofs.Shaped.{shape}
-use Rattle.editing.specs.Contract.{Ready, admission, scratch_after}
+use Rattle.editing.specs.Contract.{Ready}
 
-module _ (d : Document) (mem s : List ℕ) where
-  pub bad_buffers : buffers_ok d (length mem) (length s) ≡ false → (4 ≡ admission d mem (length s)) × (s ≡ scratch_after d mem s)
-  unfolding admission scratch_after
-  bad_buffers f = (rw f, rw f)
+module _ (d : Document) (mem s : List ℕ) (f : buffers_ok d (length mem) (length s) ≡ true) (s' : List ℕ) (h : s' ≡ replicate (length s) 0) where
+  undamaged : rules_hold (decode d mem) ≡ true → Undamaged d mem
+  unfolding buffers_ok
+  undamaged g =
+      let m : memory_ok d (length mem) ≡ true = and_left _ _ f in
+      record { memory = m; rules = rules-of-test (decode d mem) (shape (pool_in d mem) (names_in d mem) (lengths_add d mem) d mem m) g }
 
-  module _ (f : buffers_ok d (length mem) (length s) ≡ true) (s' : List ℕ) (h : s' ≡ replicate (length s) 0) where
-    pub rules_hold_admits : rules_hold (decode d mem) ≡ true → (0 ≡ admission d mem (length s)) × (s' ≡ scratch_after d mem s)
-    unfolding admission scratch_after
-    rules_hold_admits g = (rw (f, g), h ∙ rw f)
-
-    pub rules_broken : rules_hold (decode d mem) ≡ false → (5 ≡ admission d mem (length s)) × (s' ≡ scratch_after d mem s)
-    unfolding admission scratch_after
-    rules_broken g = (rw (f, g), h ∙ rw f)
-
-    undamaged : rules_hold (decode d mem) ≡ true → Undamaged d mem
-    unfolding buffers_ok
-    undamaged g =
-        let m : memory_ok d (length mem) ≡ true = and_left _ _ f in
-        record { memory = m; rules = rules-of-test (decode d mem) (shape (pool_in d mem) (names_in d mem) (lengths_add d mem) d mem m) g }
-
-    pub ready : rules_hold (decode d mem) ≡ true → Ready d mem s'
-    ready g =
-        let n : length s' ≡ length s = ap length h ∙ length-replicate (length s) 0 in
-        record { undamaged = undamaged g; buffers = ap (buffers_ok d (length mem)) n ∙ f; zero = h ∙ ap (λ (k : ℕ). replicate k 0) (sym n) }
+  pub ready : rules_hold (decode d mem) ≡ true → Ready d mem s'
+  ready g =
+      let n : length s' ≡ length s = ap length h ∙ length-replicate (length s) 0 in
+      record { undamaged = undamaged g; buffers = ap (buffers_ok d (length mem)) n ∙ f; zero = h ∙ ap (λ (k : ℕ). replicate k 0) (sym n) }

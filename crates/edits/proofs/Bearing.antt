@@ -23,7 +23,6 @@ use Rattle.slots.proofs.Stacks.{taken_words-put, taken-reused, taken-new}
 use Rattle.model.specs.Doc.{Doc}
 use Rattle.model.specs.Edits.{next_from, next_handle, born_from, born}
 use Rattle.layout.specs.declared.Document.{Document}
-use Rattle.layout.specs.Layout.{memory_ok}
 use Rattle.memory.specs.Decode.{kind_of, slots_part, slots_made, slots_free, pool_in, names_in, lengths_add, decode_with, decode}
 use Rattle.memory.specs.Writing.{put_slots, put_node}
 use Rattle.memory.proofs.Columns.{generation-in}
@@ -118,9 +117,6 @@ module _ (d : Document) (mem : List ℕ) (c : CanBear d mem) where
   taken_next t e = ap (λ (x : Taken). word_of x.id) e ∙ handle-next
 
   module _ (mem₁ : List ℕ) (e₁ : mem₁ ≡ put_slots (taken_words d.limits.nodes (slots_part d mem) (slots_made d) (slots_free d)) mem) where
-    pub taken_memory : memory_ok d (length mem₁) ≡ true
-    taken_memory = ap (memory_ok d) (ap length e₁ ∙ length-put_slots d mem (taken_words n w M F) c.memory size-taken) ∙ c.memory
-
     -- ---- the node
     module _ (m : Node) (new : Newborn m) where
       abbrev T : Taken

@@ -1,6 +1,6 @@
 -- Steps in a row.
 -- Assumes nothing.
-use mathlib.Core.Path.{◌≡◌, refl, ap, subst, ◌∙◌}
+use mathlib.Core.Path.{◌≡◌, refl, sym, ap, subst, ◌∙◌}
 use mathlib.Core.Bool.{true}
 use mathlib.Core.List.{List}
 use Prim.Native.Nat.{ℕ}
@@ -10,6 +10,8 @@ use Rattle.layout.specs.declared.Limits.{Limits}
 use Rattle.layout.specs.declared.Document.{Document}
 use Rattle.layout.specs.Layout.{limits_of, document_words, memory_ok}
 use Rattle.memory.specs.Decode.{decode}
+use Rattle.memory.specs.declared.lent.Lent.{Lent}
+use Rattle.memory.specs.Lent.{Becomes, Stepped}
 use Rattle.memory.specs.Step.{Step}
 
 -- nothing is written
@@ -35,3 +37,14 @@ module _ (d : Document) (mem : List ℕ) (e : Document) (mem₁ : List ℕ) (D :
         size = t.size ∙ s.size;
         past = subst (λ (l : Limits). drop (document_words (limits_of l)) mem₂ ≡ drop (document_words (limits_of l)) mem₁) s.limits t.past ∙ s.past;
       }
+
+-- the last write over lent memory leaves the record and the words of a step
+pub stepped : (a b c : Lent) (e : Document) (mem : List ℕ) (D : Doc) → b.words.ghost_name ≡ a.words.ghost_name → Becomes b c e mem
+    → Step a.document a.words.now e mem D → Stepped a c D
+stepped a b c e mem D g w s =
+    record {
+      step =
+          subst (λ (x : Document). Step a.document a.words.now x c.words.now D) (sym w.record_is)
+          (subst (λ (x : List ℕ). Step a.document a.words.now e x D) (sym w.words_are) s);
+      reference = w.reference ∙ g;
+    }

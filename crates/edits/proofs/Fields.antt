@@ -26,7 +26,6 @@ use Rattle.model.specs.Kinds.{Kind, Which, children, attributes, namespaces, wit
 use Rattle.model.specs.Doc.{Doc, change_nodes, kind_at}
 use Rattle.model.specs.Edits.{set_kind}
 use Rattle.layout.specs.declared.Document.{Document}
-use Rattle.layout.specs.Layout.{memory_ok}
 use Rattle.memory.specs.Decode.{slot_of, kind_of, handle_of, element_range, range_of, range_loaded, loaded_at, slots_part, slots_made, text_limits, text_counts, texts_part, pool_in, names_in, lengths_add, decode}
 use Rattle.memory.specs.Step.{Step}
 use Rattle.layout.specs.Record.{with_texts}
@@ -51,12 +50,6 @@ module _ {A : Type 0} where
   set-kept (x ∷ l) (suc i) d v b e = ap (λ (m : List A). x ∷ m) (set-kept l i d v (omega arith) e)
 
 -- ---- a node with another field
-
-pub field-of : (x y : NodeData) (f : Option TextSlot) → x ≡ y → with_field y f ≡ with_field x f
-field-of x y f e = ap (λ (z : NodeData). with_field z f) (sym e)
-
-pub filled-as : (m : Node) (f : Option TextSlot) (x : NodeData) → x ≡ with_field m.«data» f → record { «data» = x; parent = m.parent; children = m.children } ≡ filled m f
-filled-as m f x e = λ i. record { «data» = e i; parent = m.parent; children = m.children }
 
 field-kind : (x : NodeData) (f : Option TextSlot) → kind_of (with_field x f) ≡ with_text (kind_of x) (slot_of f)
 field-kind given.Root f = refl
@@ -138,9 +131,9 @@ module _ (d : Document) (mem : List ℕ) (id : NodeId) (hi : id.index < 42949672
     unfolding put_node
     past = words-past d mem h.memory id.index (node-slot d mem id hi h) _
 
-    pub field_step : (n : Node) → n ≡ filled m f → (mem' : List ℕ) → mem' ≡ put_node d mem id.index n
-        → Step d mem d mem' (set_kind (decode d mem) (word_of id) (with_text (kind_at (decode d mem) (word_of id)) (slot_of f)) (decode d mem).pool)
-    field_step n en mem' em =
+    pub field_step : (n : Node) → n ≡ filled m f
+        → Step d mem d (put_node d mem id.index n) (set_kind (decode d mem) (word_of id) (with_text (kind_at (decode d mem) (word_of id)) (slot_of f)) (decode d mem).pool)
+    field_step n en =
         let k = with_text (kind_at D (word_of id)) (slot_of f) in
         let stepped : Step d mem d (put_node d mem id.index (filled m f)) (set_kind (decode d mem) (word_of id) (with_text (kind_at (decode d mem) (word_of id)) (slot_of f)) (decode d mem).pool) =
         record {
@@ -153,7 +146,7 @@ module _ (d : Document) (mem : List ℕ) (id : NodeId) (hi : id.index < 42949672
           size = past.size;
           past = past.past;
         } in
-        subst (λ (x : List ℕ). Step d mem d x (set_kind D (word_of id) k D.pool)) (sym (em ∙ ap (λ (x : Node). put_node d mem id.index x) en)) stepped
+        subst (λ (x : Node). Step d mem d (put_node d mem id.index x) (set_kind D (word_of id) k D.pool)) (sym en) stepped
 
 -- ---- a text over that of a slot
 
@@ -174,9 +167,9 @@ module _ (d : Document) (mem : List ℕ) (slot : ℕ) (t : List ℕ) (s : Overwr
       ∙ ap (λ (p : Pool). texts_fit d.limits.texts d.limits.textbytes p 0 (length (text_at (pool_in d mem) (Some slot))) (length t)) (sym (pool-held d mem counted))
       ∙ s.room
 
-  pub over-asked : (memory_ok d (length mem) ≡ true) × Counted (text_limits d) (text_counts d) (texts_part d mem) × (slot < d.counts.texts)
+  pub over-asked : Counted (text_limits d) (text_counts d) (texts_part d mem) × (slot < d.counts.texts)
       × (counts_fit (text_limits d) (text_counts d) 0 (length_of (texts_part d mem) slot) (length t) ≡ true)
-  over-asked = (s.memory, counted, slot-there, fits)
+  over-asked = (counted, slot-there, fits)
 
   pub over-step : (mem' : List ℕ) (r : TextCounts) → ReplacedTo (text_limits d) (text_counts d) (texts_part d mem) (texts_part d mem') slot t r
       → mem' ≡ put_texts d (texts_part d mem') mem → (e : Document) → e ≡ with_texts d r → Step d mem e mem' (set_pool (decode d mem) (replaced (decode d mem).pool (Some slot) t))

@@ -15,7 +15,7 @@ use Rattle.names.proofs.Words.{table-names}
 use Rattle.model.specs.Doc.{Doc}
 use Rattle.model.specs.Rules.{Rules}
 use Rattle.layout.specs.declared.Document.{Document}
-use Rattle.layout.specs.Layout.{limits_of, memory_ok}
+use Rattle.layout.specs.Layout.{limits_of}
 use Rattle.memory.specs.Decode.{name_limits, name_counts, names_part, decode}
 use Rattle.memory.specs.Step.{Step}
 use Rattle.layout.specs.Record.{with_names}
@@ -36,9 +36,9 @@ module _ (d : Document) (mem : List ℕ) (n : Name) (s : Internable d mem n) whe
   fits : name_fits d.limits.names d.limits.namebytes (table_of (name_limits d) (name_counts d) (names_part d mem)) n ≡ true
   fits = ap (λ (t : List (Option Name)). name_fits d.limits.names d.limits.namebytes t n) (sym (names-held d mem table)) ∙ s.room
 
-  pub intern-asked : (memory_ok d (length mem) ≡ true) × TableHeld (name_limits d) (name_counts d) (names_part d mem)
+  pub intern-asked : TableHeld (name_limits d) (name_counts d) (names_part d mem)
       × (name_fits d.limits.names d.limits.namebytes (table_of (name_limits d) (name_counts d) (names_part d mem)) n ≡ true)
-  intern-asked = (s.memory, table, fits)
+  intern-asked = (table, fits)
 
   module _ (mem' : List ℕ) (r : Interned) (k : InternedTo (name_limits d) (name_counts d) (names_part d mem) (names_part d mem') n r) where
     pub number-narrow : r.number.0 < 4294967296

@@ -107,18 +107,15 @@ module _ (d : Document) (mem : List ℕ) (w : Which) (s : ℕ) (h : BlockHeld d 
       block-past d mem h.memory w s slot (removal d mem w s id)
       (after-removal-length (arena_part d w mem) (entries_of d.limits w) (arena_used d w) b.start b.len held id)
 
-  pub drop-step : (id p : ℕ) → handle_index p ≡ s → which_of (kind_at (decode d mem) id) ≡ w → (mem' : List ℕ) → mem' ≡ put_block d mem w s (removal d mem w s id)
-      → (r : Document) → r ≡ outdated d → Step d mem r mem' (unlink_from (Some p) (decode d mem) id)
-  drop-step id p j k mem' e r er =
-      let stepped : Step d mem (outdated d) (put_block d mem w s (removal d mem w s id)) (unlink_from (Some p) (decode d mem) id) =
+  drop-step : (id p : ℕ) → handle_index p ≡ s → which_of (kind_at (decode d mem) id) ≡ w
+      → Step d mem (outdated d) (put_block d mem w s (removal d mem w s id)) (unlink_from (Some p) (decode d mem) id)
+  drop-step id p j k =
       record {
         document = unlink-promise d mem w s h id p j k;
         limits = refl;
         size = (removal-past id).size;
         past = (removal-past id).past;
-      } in
-      subst (λ (x : Document). Step d mem x mem' (unlink_from (Some p) (decode d mem) id)) (sym er)
-      (subst (λ (x : List ℕ). Step d mem (outdated d) x (unlink_from (Some p) (decode d mem) id)) (sym e) stepped)
+      }
 
 -- insert_entry
 module _ (d : Document) (mem : List ℕ) (w : Which) (s : ℕ) (o : BlockOpen d mem w s) (k id : ℕ) where
@@ -137,18 +134,14 @@ module _ (d : Document) (mem : List ℕ) (w : Which) (s : ℕ) (o : BlockOpen d 
   unfolding with_used
   limits-grown = refl
 
-  pub insert-step : (p : ℕ) → handle_index p ≡ s → (mem' : List ℕ) → mem' ≡ put_block d mem w s (insertion d mem w s k id)
-      → (r : Document) → r ≡ with_used d w (insertion d mem w s k id).arena.used → Step d mem r mem' (link (decode d mem) w p k id)
-  insert-step p j mem' e r er =
-      let stepped : Step d mem grown (put_block d mem w s (insertion d mem w s k id)) (link (decode d mem) w p k id) =
+  insert-step : (p : ℕ) → handle_index p ≡ s → Step d mem grown (put_block d mem w s (insertion d mem w s k id)) (link (decode d mem) w p k id)
+  insert-step p j =
       record {
         document = link-promise d mem w s o.held o.room k id p j;
         limits = limits-grown;
         size = insertion-past.size;
         past = insertion-past.past;
-      } in
-      subst (λ (x : Document). Step d mem x mem' (link (decode d mem) w p k id)) (sym er)
-      (subst (λ (x : List ℕ). Step d mem grown x (link (decode d mem) w p k id)) (sym e) stepped)
+      }
 
 -- ---- a node unlinked
 
@@ -189,14 +182,13 @@ module _ (d : Document) (mem : List ℕ) (id : NodeId) (hi : id.index < 42949672
         subst (λ (i : ℕ). BlockHeld d mem w i) (handle_index-word_of p parent-fits)
         (subst (λ (v : Which). BlockHeld d mem v (handle_index (word_of p))) arena-is (h.block (word_of p) parent-some))
 
-    pub unlink-some : (word : ℕ) → word ≡ word_of id → (mem' : List ℕ) → mem' ≡ put_block d mem w p.index (removal d mem w p.index word)
-        → (r : Document) → r ≡ outdated d → Step d mem r mem' (unlink (decode d mem) (word_of id))
+    pub unlink-some : (word : ℕ) → word ≡ word_of id → Step d mem (outdated d) (put_block d mem w p.index (removal d mem w p.index word)) (unlink (decode d mem) (word_of id))
     unfolding unlink
-    unlink-some word ew mem' em r er =
-        step-as d mem r mem' (unlink_from (Some (word_of p)) D (word_of id)) (unlink_from (parent_at D (word_of id)) D (word_of id))
-        (drop-step d mem w p.index parent-held (word_of id) (word_of p) (handle_index-word_of p parent-fits) arena-is mem'
-        (em ∙ ap (λ (x : ℕ). put_block d mem w p.index (removal d mem w p.index x)) ew) r er)
-        (ap (λ (x : Option ℕ). unlink_from x D (word_of id)) (sym parent-some))
+    unlink-some word ew =
+        subst (λ (x : ℕ). Step d mem (outdated d) (put_block d mem w p.index (removal d mem w p.index x)) (unlink_from (parent_at D (word_of id)) D (word_of id))) (sym ew)
+        (step-as d mem (outdated d) (put_block d mem w p.index (removal d mem w p.index (word_of id))) (unlink_from (Some (word_of p)) D (word_of id)) (unlink_from (parent_at D (word_of id)) D (word_of id))
+        (drop-step d mem w p.index parent-held (word_of id) (word_of p) (handle_index-word_of p parent-fits) arena-is)
+        (ap (λ (x : Option ℕ). unlink_from x D (word_of id)) (sym parent-some)))
 
 -- ---- unhook: then it has no parent
 
@@ -245,11 +237,13 @@ module _ (d : Document) (mem : List ℕ) (w : Which) (h : ℕ) (parent : NodeId)
       subst (λ (i : ℕ). BlockOpen e mem₁ w i) (handle_index-word_of parent pi)
       (open-adopted a.node.memory (handle_index (word_of parent)) a.room)
 
-  pub attach-step : Attachable d mem w (word_of parent) h → (k word : ℕ) → word ≡ h → (mem₂ : List ℕ)
-      → mem₂ ≡ put_block e mem₁ w parent.index (insertion e mem₁ w parent.index k word)
-      → (r : Document) → r ≡ with_used e w (insertion e mem₁ w parent.index k word).arena.used → Step d mem r mem₂ (attach (decode d mem) w (word_of parent) k h)
-  attach-step a k word ew mem₂ em r er =
+  pub attach-step : Attachable d mem w (word_of parent) h → (k word : ℕ) → word ≡ h
+      → Step d mem (with_used e w (insertion e mem₁ w parent.index k word).arena.used) (put_block e mem₁ w parent.index (insertion e mem₁ w parent.index k word)) (attach (decode d mem) w (word_of parent) k h)
+  attach-step a k word ew =
+      let i = insertion e mem₁ w parent.index k word in
+      let r = with_used e w i.arena.used in
+      let mem₂ = put_block e mem₁ w parent.index i in
       step-next d mem e mem₁ S s (λ (x : Doc). link x w (word_of parent) k h) r mem₂
       (step-as e mem₁ r mem₂ (link (decode e mem₁) w (word_of parent) k word) (link (decode e mem₁) w (word_of parent) k h)
-      (insert-step e mem₁ w parent.index (owner-open a) k word (word_of parent) (handle_index-word_of parent pi) mem₂ em r er)
+      (insert-step e mem₁ w parent.index (owner-open a) k word (word_of parent) (handle_index-word_of parent pi))
       (ap (λ (v : ℕ). link (decode e mem₁) w (word_of parent) k v) ew))

@@ -1,7 +1,7 @@
 -- A new node whose texts and name are stored first: the steps in a row are the model's one.
 -- Assumes nothing.
 use Rattle.words.specs.declared.TextSlot.{TextSlot}
-use Rattle.std.specs.Prelude.{Option, None}
+use Rattle.std.specs.Prelude.{Option}
 use mathlib.Core.Path.{◌≡◌, refl, sym, ap, ap₂, subst, ◌∙◌}
 use mathlib.Core.Bool.{true}
 use mathlib.Core.List.{List, [], ◌∷◌}

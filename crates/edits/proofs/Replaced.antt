@@ -103,12 +103,12 @@ module _ (d : Document) (mem : List ℕ) (h : ℕ) (t : List ℕ) (e : Document)
   unfolding set_pool set_kind
   fill-same x = refl
 
-  pub fill_step : (f : Option TextSlot) → slot_of f ≡ stored_slot (decode d mem).pool t → (mem₂ : List ℕ)
-      → Step e mem₁ e mem₂ (set_kind (decode e mem₁) h (with_text (kind_at (decode e mem₁) h) (slot_of f)) (decode e mem₁).pool)
-      → Step d mem e mem₂ (with_replaced (decode d mem) h None t)
-  fill_step f q mem₂ b =
-      step-as d mem e mem₂ _ (with_replaced (decode d mem) h None t)
-      (step-next d mem e mem₁ (set_pool (decode d mem) Q) a (λ (x : Doc). set_kind x h (with_text (kind_at x h) (slot_of f)) x.pool) e mem₂ b)
+  pub fill_step : (f : Option TextSlot) → slot_of f ≡ stored_slot (decode d mem).pool t → (r : Document) (mem₂ : List ℕ)
+      → Step e mem₁ r mem₂ (set_kind (decode e mem₁) h (with_text (kind_at (decode e mem₁) h) (slot_of f)) (decode e mem₁).pool)
+      → Step d mem r mem₂ (with_replaced (decode d mem) h None t)
+  fill_step f q r mem₂ b =
+      step-as d mem r mem₂ _ (with_replaced (decode d mem) h None t)
+      (step-next d mem e mem₁ (set_pool (decode d mem) Q) a (λ (x : Doc). set_kind x h (with_text (kind_at x h) (slot_of f)) x.pool) r mem₂ b)
       (fill-same (slot_of f)
       ∙ ap₂ (λ (x : Option ℕ) (p : Pool). set_kind (decode d mem) h (with_text (kind_at (decode d mem) h) x) p) q (sym (replaced-none (decode d mem).pool t)))
 

@@ -14,7 +14,7 @@ use Rattle.texts.specs.Pool.{Pool, stored, stored_from, stored_slot, slots_for, 
 use Rattle.texts.specs.Rule.{FreeTexts}
 use Rattle.texts.specs.Words.{field_of, counts_fit, Counted, PoolHeld, StoredTo}
 use Rattle.texts.specs.declared.storing.Stored.{Stored}
-use Rattle.std.specs.Prelude.{Option, Some}
+use Rattle.std.specs.Prelude.{Option}
 use Rattle.texts.proofs.Pool.{stored-slots, stored-free, stored_bytes, texts_fit-within, within-texts_fit}
 use Rattle.texts.proofs.Rule.{stored-free-texts}
 use Rattle.texts.proofs.Words.{fits-pool}
@@ -22,7 +22,6 @@ use Rattle.model.specs.Doc.{Doc}
 use Rattle.model.specs.Rules.{Rules}
 use Rattle.model.specs.Calls.{text_fits}
 use Rattle.layout.specs.declared.Document.{Document}
-use Rattle.layout.specs.Layout.{memory_ok}
 use Rattle.memory.specs.Decode.{slot_of, text_limits, text_counts, texts_part, decode}
 use Rattle.memory.specs.Step.{Step}
 use Rattle.layout.specs.Record.{with_texts}
@@ -92,8 +91,8 @@ module _ (d : Document) (mem t : List ℕ) (s : Storable d mem t) where
       ∙ ap (λ (p : Pool). texts_fit d.limits.texts d.limits.textbytes p (slots_for t) 0 (length t)) (sym (pool-held d mem counted))
       ∙ s.room
 
-  pub store-asked : (memory_ok d (length mem) ≡ true) × PoolHeld (text_limits d) (text_counts d) (texts_part d mem) × (counts_fit (text_limits d) (text_counts d) (slots_for t) 0 (length t) ≡ true)
-  store-asked = (s.memory, held-texts, fits)
+  pub store-asked : PoolHeld (text_limits d) (text_counts d) (texts_part d mem) × (counts_fit (text_limits d) (text_counts d) (slots_for t) 0 (length t) ≡ true)
+  store-asked = (held-texts, fits)
 
   module _ (mem' : List ℕ) (r : Stored) (k : StoredTo (text_limits d) (text_counts d) (texts_part d mem) (texts_part d mem') t r) where
     pub store_step : mem' ≡ put_texts d (texts_part d mem') mem → (e : Document) → e ≡ with_texts d r.counts
@@ -104,11 +103,6 @@ module _ (d : Document) (mem t : List ℕ) (s : Storable d mem t) where
 
     pub stored-field : (f : Option TextSlot) → slot_of f ≡ field_of r.field → slot_of f ≡ stored_slot (decode d mem).pool t
     stored-field f q = q ∙ k.field ∙ ap (λ (x : Pool). stored_slot x t) (sym (pool-held d mem counted))
-
--- ---- the pool's field as a node's
-
-pub slot-field : (f : Option TextSlot) (s : TextSlot) → f ≡ Some s → s.0 < 4294967296 → (Some s.0 ≡ field_of f) × (s.0 < 4294967296)
-slot-field f s e h = (sym (ap field_of e), h)
 
 -- ---- two texts stored, one after the other
 

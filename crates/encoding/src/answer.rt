@@ -8,7 +8,6 @@ use crate::record::{put_record, truth_word, words_of};
 use edits::born::NewNode;
 use layout::Document;
 use model::Refusal;
-use records::handle::word_of;
 
 // The status of a refusal is its number.
 pub fn refused(why: Refusal) -> u64
@@ -41,7 +40,7 @@ pub fn give_made(document: &mut [u64], made: &mut [u64], answer: Result<NewNode,
         Ok(new) => {
             let id = new.id;
             put_record(document, new.document);
-            made[0] = word_of(id);
+            made[0] = u64::from(id);
             0
         }
         Err(why) => refused(why),

@@ -8,7 +8,6 @@ ghost use Rattle.encoding.specs.Given.{status_of, given_to, behind_one, root_wor
 use crate::answer::refused;
 use model::Refusal;
 use records::encode::record_of;
-use records::handle::word_of;
 use records::{Node, NodeData, NodeId, Range};
 use words::NameId;
 
@@ -43,7 +42,7 @@ pub fn give_root(answer: &mut [u64], r: Result<NodeId, Refusal>) -> u64
         r.map(
             |id: NodeId| -> [u64; 1]
                 ensures { result ≡ word_of id ∷ [] }
-            { [word_of(id)] },
+            { [u64::from(id)] },
         ),
     )
 }
@@ -81,7 +80,7 @@ pub fn give_node(answer: &mut [u64], r: Result<Option<NodeId>, Refusal>) -> u64
         r.map(
             |found: Option<NodeId>| -> [u64; 2]
                 ensures { Ok result ≡ node_words (Ok found) }
-            { behind_one(found.map(word_of)) },
+            { behind_one(found.map(u64::from)) },
         ),
     )
 }

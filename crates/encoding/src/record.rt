@@ -69,7 +69,7 @@ pub fn lent_record(words: &[u64], room: usize, asked: usize) -> Option<Document>
 pub fn truth_word(t: bool) -> u64
     ensures { result ≡ truth_word t }
 {
-    if t { 1 } else { 0 }
+    u64::from(t)
 }
 
 #[tactic(auto, unfolding(crate::specs::Records::words_of))]

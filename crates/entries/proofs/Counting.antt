@@ -1,6 +1,5 @@
 -- What the functions that test and count the entries cite, over plain values.
 -- Assumes nothing.
-use Rattle.std.specs.Prelude.{Option, None, Some}
 use mathlib.Core.Path.{◌≡◌, refl, sym, ap, ◌∙◌, subst}
 use mathlib.Core.Bool.{Bool, true, false, cond, false≢true}
 use mathlib.Core.List.{List, [], ◌∷◌, ◌++◌, map}
@@ -15,7 +14,7 @@ use Rattle.words.specs.Lists.{all, all_below}
 use Rattle.blocks.specs.Arena.{block, cap_of}
 use Rattle.records.specs.Handles.{handle_index}
 use Rattle.model.specs.Kinds.{Which, children, attributes, namespaces}
-use Rattle.model.specs.Doc.{Doc, live_slot, handle_at, parent_in, range_in, is_none}
+use Rattle.model.specs.Doc.{Doc, live_slot, handle_at, parent_in, range_in}
 use Rattle.model.specs.Rules.{block_in, Blocks}
 use Rattle.model.specs.RulesTest.{implies, all_option, all_which, parents_hold, entries_hold, blocks_hold}
 use Rattle.laws.proofs.RulesTestEntries.{parents-of-test}
@@ -50,9 +49,6 @@ module _ (nodes made : ℕ) (mem : List ℕ) (list owner entry : ℕ) (t : Bool)
     answer = sym y ∙ q;
     counts = λ _. subst (λ (l : List ℕ). Adds made (handle_index entry ∷ []) marks l) (sym a) (adds_one made marks (handle_index entry) (entry-marked h y));
   }
-
-  pub entry-refused : t ≡ false → Pass made (words_enter nodes made mem list owner entry) (handle_index entry ∷ []) marks marks false
-  entry-refused n = record { answer = sym n ∙ q; counts = λ z. absurd (false≢true z) }
 
 -- ---- the entries of a block, one by one
 
@@ -158,26 +154,6 @@ unfolding entries_in entries_enter slots_entered lists_enter all_which slots_nam
 lists-none D made i before t f n = rw (sym f ∙ n) (record { answer = refl; counts = λ _. adds_none made before })
 
 -- ---- each live node with a parent once
-
-module _ (D : Doc) (s mark : ℕ) where
-  pub entered-marked : eqb mark 1 ≡ true → true ≡ implies (live_slot D s) (all_option (λ _. eqb mark 1) (parent_in D s))
-  entered-marked e = go (live_slot D s) (parent_in D s)
-    where
-      go : (l : Bool) (o : Option ℕ) → true ≡ implies l (all_option (λ _. eqb mark 1) o)
-      go false o = refl
-      go true None = refl
-      go true (Some p) = sym e
-
-  module _ (t : Bool) (f : t ≡ live_slot D s) where
-    pub entered-live : t ≡ true → eqb mark 1 ≡ false → (r : Bool) → r ≡ is_none (parent_in D s) → r ≡ implies (live_slot D s) (all_option (λ _. eqb mark 1) (parent_in D s))
-    entered-live y n r e = e ∙ rw (sym f ∙ y) (go (parent_in D s))
-      where
-        go : (o : Option ℕ) → is_none o ≡ all_option (λ _. eqb mark 1) o
-        go None = refl
-        go (Some p) = sym n
-
-    pub entered-free : t ≡ false → true ≡ implies (live_slot D s) (all_option (λ _. eqb mark 1) (parent_in D s))
-    entered-free n = sym (rw (sym f ∙ n))
 
 pub marked-is : (D : Doc) (marks : List ℕ) (i : ℕ) (r : Bool) → r ≡ implies (live_slot D i) (all_option (λ _. eqb (get_or marks i 0) 1) (parent_in D i)) → r ≡ marked_once D marks i
 unfolding marked_once

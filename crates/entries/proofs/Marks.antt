@@ -1,6 +1,6 @@
 -- Counting into marks, and the one law of every loop that does it: slot by slot, or entry by entry.
 -- Assumes nothing.
-use mathlib.Core.Path.{◌≡◌, refl, sym, ap, ◌∙◌, subst}
+use mathlib.Core.Path.{◌≡◌, sym, ap, ◌∙◌, subst}
 use mathlib.Core.Bool.{Bool, true, false, cond, false≢true}
 use mathlib.Core.List.{List, [], ◌∷◌, ◌++◌, append_assoc, append-nil}
 use Prim.Native.Nat.{ℕ, ◌+◌, ◌≤◌, ◌<◌, min}
@@ -58,9 +58,6 @@ pub record Passing (made n : ℕ) (p : ℕ → Bool) (f : ℕ → List ℕ) (bef
   pub counts : Adds made (gathered f i) before marks
 
 module _ (made n : ℕ) (p : ℕ → Bool) (f : ℕ → List ℕ) (before : List ℕ) where
-  pub passing-none : Passing made n p f before before 0
-  passing-none = record { at = omega arith; same = refl; sofar = refl; counts = adds_none made before }
-
   module _ (marks after : List ℕ) (i : ℕ) (s : Passing made n p f before marks i) (r : Bool) where
     pub passing-next : i < n → length after ≡ length marks → Pass made (p i) (f i) marks after r → r ≡ true → Passing made n p f before after (i + 1)
     passing-next b l q e = record {
@@ -94,8 +91,3 @@ module _ (n : ℕ) (p : ℕ → Bool) where
 
   pub tested-not : (i : ℕ) (r : Bool) → i < n → r ≡ p i → r ≡ false → false ≡ all_below p n
   tested-not i r b q e = sym (all_below-not p n i b (sym q ∙ e))
-
-  pub tested-all : (i : ℕ) → i ≤ n → n ≤ i → all_below p i ≡ true → true ≡ all_below p n
-  tested-all i a b h =
-      let e : i ≡ n = omega arith in
-      sym (ap (all_below p) (sym e) ∙ h)

@@ -6,9 +6,9 @@ use mathlib.Core.Path.{◌≡◌, refl, sym, ap, ◌∙◌, subst}
 use mathlib.Core.Bool.{Bool, true, false, not, cond, false≢true, true≢false}
 use mathlib.Core.List.{List, [], ◌∷◌}
 use Prim.Native.Nat.{ℕ, zero, suc, ◌+◌, ◌-◌, ◌≤◌, ◌<◌}
-use native.Mathlib.Decide.{ℕ_discrete, dec_lt}
+use native.Mathlib.Decide.{ℕ_discrete}
 use native.Mathlib.Omega.{arith}
-use lib.ListN.{length, get_or, set, replicate, get_or-replicate, get_or-eq_default}
+use lib.ListN.{length, get_or, set}
 use lib.Seq.{get_or-set_other}
 use lib.Dec.{eqb}
 use borrow.Author.Tests.{eq-eqb, ne_eqb}
@@ -23,8 +23,6 @@ use Rattle.laws.proofs.Quantifiers.{live_at}
 use Rattle.laws.proofs.RulesTestEntries.{parents-of-test}
 use Rattle.laws.proofs.RulesTestPaths.{test-of-ends}
 use Rattle.layout.specs.declared.Document.{Document}
-use Rattle.layout.specs.Layout.{memory_ok}
-use Rattle.layout.proofs.Sizes.{sizes}
 use Rattle.memory.specs.Decode.{slots_made}
 use Rattle.memory.proofs.Columns as columns
 use Rattle.entries.specs.Nodes.{no_texts, decode_nodes, record_word}
@@ -76,16 +74,6 @@ module _ (D : Doc) (i q : ℕ) (e : map_option handle_index (parent_in D i) ≡ 
 -- ---- following
 
 module _ (D : Doc) (s : ℕ) where
-  pub follow-start : live_slot D s ≡ true → Following D s s 0
-  follow-start l = record {
-    steps = omega arith;
-    ends = λ r. r;
-    within =
-        let e : length D.gens ≡ length D.gens - 0 = omega arith in
-        ap (λ (f : ℕ). ends_within f D s) e;
-    live = l;
-  }
-
   module _ (at k : ℕ) (F : Following D s at k) where
     pub follow-step : parents_hold D ≡ true → k < length D.gens → (q : ℕ) → map_option handle_index (parent_in D at) ≡ Some q → Following D s q (k + 1)
     follow-step h b q e = record {
@@ -107,13 +95,6 @@ module _ (D : Doc) (s : ℕ) where
         record { ends = λ e. absurd (false≢true e); lost = λ _. F.within ∙ ap (λ (f : ℕ). ends_within f D at) z }
 
 -- ---- marking
-
-pub known-none : (D : Doc) (marks : List ℕ) → marks ≡ replicate (length marks) 0 → Known D marks
-known-none D marks e = record { ends = λ i h. absurd (h (zero-at i (dec_lt i (length marks)))) }
-  where
-    zero-at : (i : ℕ) → Dec (i < length marks) → get_or marks i 0 ≡ 0
-    zero-at i (yes b) = ap (λ (l : List ℕ). get_or l i 0) e ∙ get_or-replicate (length marks) i 0 0 b
-    zero-at i (no b) = get_or-eq_default marks 0 {n = i} (omega arith)
 
 pub known-ends : (D : Doc) (marks : List ℕ) → Known D marks → (i : ℕ) → not (eqb (get_or marks i 0) 0) ≡ true → Ends D i
 known-ends D marks K i e = K.ends i (λ z. false≢true (rw (eq-eqb (get_or marks i 0) 0 z) at e))
@@ -138,16 +119,9 @@ fewer (y ∷ l) (suc x) b e = let h = fewer l x (omega arith) e in omega arith
 pub gens-made : (d : Document) (mem : List ℕ) → length (decode_nodes d mem).gens ≡ slots_made d
 gens-made d mem = columns.length-gens no_texts [] true d mem
 
--- a live slot was made, one of few
-pub record Few (d : Document) (i : ℕ) : Type 0 where
-  pub made : i < slots_made d
-  pub few : i < 65536
-
-pub live-few : (d : Document) (mem : List ℕ) → memory_ok d (length mem) ≡ true → (i : ℕ) → live_slot (decode_nodes d mem) i ≡ true → Few d i
-live-few d mem ok i l =
-    let z = sizes d (length mem) ok in
-    let b = live-below (decode_nodes d mem) i l in
-    record { made = omega (arith, b, gens-made d mem); few = omega (arith, b, gens-made d mem, z.nodes) }
+-- a live slot was made
+pub live_made : (d : Document) (mem : List ℕ) (i : ℕ) → live_slot (decode_nodes d mem) i ≡ true → i < slots_made d
+live_made d mem i l = omega (arith, live-below (decode_nodes d mem) i l, gens-made d mem)
 
 module _ (d : Document) (mem : List ℕ) (s : ℕ) (l : live_slot (decode_nodes d mem) s ≡ true) (w : ℕ) (q : w ≡ record_word d mem s 4) where
   pub parent-none : w ≡ 0 → parent_in (decode_nodes d mem) s ≡ None
@@ -165,27 +139,9 @@ module _ (d : Document) (mem : List ℕ) (s : ℕ) (l : live_slot (decode_nodes 
 -- ---- a slot's path is passed
 
 module _ (D : Doc) (s : ℕ) where
-  pub pass-free : (t : Bool) → t ≡ live_slot D s → t ≡ false → (marks : List ℕ) → Known D marks → Passed D s marks true
-  pass-free t f n marks K = record {
-    known = λ _. K;
-    ends = λ _ l. absurd (false≢true (sym n ∙ f ∙ l));
-    lost = λ e. absurd (true≢false e);
-  }
-
   -- where its parent is known
   pub pass-known : Ends D s → (marks : List ℕ) → Known D marks → s < length marks → (v : ℕ) → Passed D s (set marks s v) true
   pass-known E marks K b v = record { known = λ _. known_next D marks s v K E b; ends = λ _ _. E; lost = λ z. absurd (true≢false z) }
-
-  module _ (l : live_slot D s ≡ true) (r : Bool) (F : Followed D s r) (after : List ℕ) where
-    pub pass-lost : r ≡ false → Passed D s after false
-    pass-lost e = record {
-      known = λ z. absurd (false≢true z);
-      ends = λ z _. absurd (false≢true z);
-      lost = λ _. (l, F.lost e);
-    }
-
-    pub pass-marked : r ≡ true → Known D after → Passed D s after true
-    pass-marked e K = record { known = λ _. K; ends = λ _ _. F.ends e; lost = λ z. absurd (true≢false z) }
 
 -- ---- rule 6
 
@@ -197,9 +153,6 @@ pub record Checked (D : Doc) (before marks : List ℕ) (i : ℕ) : Type 0 where
   pub ends : (j : ℕ) → j < i → live_slot D j ≡ true → Ends D j
 
 module _ (D : Doc) (before : List ℕ) where
-  pub checked-none : before ≡ replicate (length before) 0 → Checked D before before 0
-  checked-none e = record { at = omega arith; same = refl; known = known-none D before e; ends = λ j h. absurd (omega arith) }
-
   module _ (marks : List ℕ) (i : ℕ) (C : Checked D before marks i) (after : List ℕ) (r : Bool) (P : Passed D i after r) where
     pub checked-next : i < length D.gens → length after ≡ length marks → r ≡ true → Checked D before after (i + 1)
     checked-next h l e = record {

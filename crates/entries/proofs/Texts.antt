@@ -34,7 +34,7 @@ use Rattle.layout.proofs.Sizes.{limits-fit, memory-limits}
 use Rattle.memory.proofs.Counted.{CountsFit, counts-fit}
 use Rattle.memory.proofs.Columns as columns
 use Rattle.memory.proofs.Shown.{names-shown}
-use Rattle.memory.proofs.Lent.{texts-length}
+use Rattle.memory.proofs.PoolAndTable.{texts-length}
 use Rattle.entries.specs.Nodes.{no_texts, decode_nodes}
 use Rattle.entries.specs.Marks.{Counted, gathered}
 use Rattle.entries.specs.Fields.{slots_inside, names_inside, fields_hold, marked_one, slots_once, pool_holds}

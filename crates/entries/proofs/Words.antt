@@ -59,6 +59,9 @@ pub live-narrow : (d : Document) (mem : List ℕ) → memory_ok d (length mem) �
 live-narrow d mem ok s l = omega (arith, live-below d mem s l, (sizes d (length mem) ok).nodes)
 
 -- the node of a handle that resolves is live
+-- where a live slot lies
+pub ruleset live_slots = (live-below, live-narrow)
+
 pub current-live : (D : Doc) (handle : ℕ) (t : Bool) → t ≡ resolves D handle → t ≡ true → live_slot D (handle % 4294967296) ≡ true
 current-live D handle t e y = and_left (live_slot D (handle_index handle)) (eqb (doc.generation_at D (handle_index handle)) (handle_generation handle)) (sym e ∙ y)
 

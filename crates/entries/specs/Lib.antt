@@ -1,4 +1,5 @@
 pub mod Nodes
+pub mod View
 pub mod Marks
 pub mod Entering
 pub mod Paths

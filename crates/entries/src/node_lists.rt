@@ -6,15 +6,13 @@ ghost use Rattle.words.specs.Lists.{all, all_below};
 ghost use Rattle.records.specs.Handles.{handle_index};
 ghost use Rattle.model.specs.Doc.{live_slot, handle_at, parent_in};
 ghost use Rattle.model.specs.RulesTest.{implies, all_option, parents_hold, entries_hold, blocks_hold};
-ghost use Rattle.layout.specs.Layout.{memory_ok};
 ghost use Rattle.memory.specs.Decode.{slots_made};
-ghost use Rattle.entries.specs.Nodes.{decode_nodes, words_hold};
+ghost use Rattle.entries.specs.View.{decoded_nodes};
 ghost use Rattle.entries.specs.Marks.{Pass, gathered};
 ghost use Rattle.entries.specs.Entering.{kind_list, parent_words, words_enter, lists_enter, slots_named, marked_once};
 
-use crate::nodes::{count, current_word, handle_of, is_live};
-use layout::{Arena, Document, arena_at};
-use memory::fields::has_no_parent;
+use crate::nodes::{Nodes, count, current_word};
+use layout::{Arena, arena_at};
 use memory::read::made;
 use records::kind::{ATTR, NAMESPACE};
 use words::NodeSlot;
@@ -90,90 +88,102 @@ impl Owner<'_> {
     }
 }
 
-// The three lists of a live slot, whose handle is owner. Each has its numbers written out, so that none is looked up by the arena.
-// Stays: an `Arena` in their place would be matched again for the number, the words and the start of each list.
-fn count_node(d: Document, mem: &[u64], owner: u64, s: usize, marks: &mut [u64]) -> bool
-    requires mem_value { (memory_ok d (length mem.now) ≡ true) × (slots_made d ≤ length marks.old) × (blocks_hold (decode_nodes d mem.now) ≡ true) × (words_hold d mem.now ≡ true) }
-    requires s_value { (live_slot (decode_nodes d mem.now) s ≡ true) × (owner ≡ handle_at (decode_nodes d mem.now) s) }
-    ensures { Pass (slots_made d) (lists_enter (decode_nodes d mem.now) s) (slots_named (decode_nodes d mem.now) s) marks.old marks.new result }
-{
-    let l = d.limits;
-    let nodes = l.nodes;
-    let node = Owner {
-        mem,
-        nodes,
-        made: made(d),
-        handle: owner,
-    };
-    let at = nodes * 2 + s * 12;
-    if !node.count_list(0, at + 6, arena_at(l, Arena::Children), marks) {
-        return false;
-    }
-    if !node.count_list(1, at + 8, arena_at(l, Arena::Attributes), marks) {
-        return false;
-    }
-    node.count_list(2, at + 10, arena_at(l, Arena::Namespaces), marks)
+// Nodes of which rule 5 holds too: the blocks of each live slot lie inside their arenas.
+#[derive(Clone, Copy)]
+pub struct Lists<'a> {
+    pub nodes: Nodes<'a>,
+    pub ghost blocks: { blocks_hold (decoded_nodes nodes.view) ≡ true },
 }
 
-// The lists of a slot, where it is live.
-fn count_slot(d: Document, mem: &[u64], s: usize, marks: &mut [u64]) -> bool
-    requires { (memory_ok d (length mem.now) ≡ true) × (slots_made d ≤ length marks.old) × (s < slots_made d) × (blocks_hold (decode_nodes d mem.now) ≡ true) × (words_hold d mem.now ≡ true) }
-    ensures { Pass (slots_made d) (lists_enter (decode_nodes d mem.now) s) (slots_named (decode_nodes d mem.now) s) marks.old marks.new result }
-{
-    if is_live(d, mem, s) {
-        let owner = handle_of(d, mem, s);
-        count_node(d, mem, owner, s, marks)
-    } else {
-        true
-    }
-}
-
-// The lists of all slots.
-fn count_lists(d: Document, mem: &[u64], marks: &mut [u64]) -> bool
-    requires { (memory_ok d (length mem.now) ≡ true) × (slots_made d ≤ length marks.old) × (blocks_hold (decode_nodes d mem.now) ≡ true) × (words_hold d mem.now ≡ true) }
-    ensures { Pass (slots_made d) (all_below (lists_enter (decode_nodes d mem.now)) (slots_made d)) (gathered (slots_named (decode_nodes d mem.now)) (slots_made d)) marks.old marks.new result }
-{
-    for i in 0..made(d) {
-        if !count_slot(d, mem, i, marks) {
+impl Lists<'_> {
+    // The three lists of a live slot, whose handle is owner. Each has its numbers written out, so that none is looked up by the arena.
+    // Stays: an `Arena` in their place would be matched again for the number, the words and the start of each list.
+    #[tactic(auto, using(crate::proofs::Words::live_slots), unfolding(layout::specs::Layout::memory_ok, layout::specs::Layout::document_words, model::specs::Doc::limits_ok))]
+    fn count_node(&self, owner: u64, s: usize, marks: &mut [u64]) -> bool
+        requires marks_in_bounds { slots_made self.now.nodes.view.document ≤ length marks.old }
+        requires s_value { (live_slot (decoded_nodes self.now.nodes.view) s ≡ true) × (owner ≡ handle_at (decoded_nodes self.now.nodes.view) s) }
+        ensures { Pass (slots_made self.now.nodes.view.document) (lists_enter (decoded_nodes self.now.nodes.view) s) (slots_named (decoded_nodes self.now.nodes.view) s) marks.old marks.new result }
+    {
+        let view = &self.nodes.view;
+        let l = view.document.limits;
+        let nodes = l.nodes;
+        let node = Owner {
+            mem: view.words,
+            nodes,
+            made: made(view.document),
+            handle: owner,
+        };
+        let at = nodes * 2 + s * 12;
+        if !node.count_list(0, at + 6, arena_at(l, Arena::Children), marks) {
             return false;
         }
+        if !node.count_list(1, at + 8, arena_at(l, Arena::Attributes), marks) {
+            return false;
+        }
+        node.count_list(2, at + 10, arena_at(l, Arena::Namespaces), marks)
     }
-    true
+
+    // The lists of a slot, where it is live.
+    fn count_slot(&self, s: usize, marks: &mut [u64]) -> bool
+        requires { (slots_made self.now.nodes.view.document ≤ length marks.old) × (s < slots_made self.now.nodes.view.document) }
+        ensures { Pass (slots_made self.now.nodes.view.document) (lists_enter (decoded_nodes self.now.nodes.view) s) (slots_named (decoded_nodes self.now.nodes.view) s) marks.old marks.new result }
+    {
+        if self.nodes.is_live(s) {
+            let owner = self.nodes.handle_of(s);
+            self.count_node(owner, s, marks)
+        } else {
+            true
+        }
+    }
+
+    // The lists of all slots.
+    fn count_lists(&self, marks: &mut [u64]) -> bool
+        requires { slots_made self.now.nodes.view.document ≤ length marks.old }
+        ensures { Pass (slots_made self.now.nodes.view.document) (all_below (lists_enter (decoded_nodes self.now.nodes.view)) (slots_made self.now.nodes.view.document)) (gathered (slots_named (decoded_nodes self.now.nodes.view)) (slots_made self.now.nodes.view.document)) marks.old marks.new result }
+    {
+        for i in 0..made(self.nodes.view.document) {
+            if !self.count_slot(i, marks) {
+                return false;
+            }
+        }
+        true
+    }
+
+    // Whether rule 4 holds, where rule 3 does. The marks, a word for each slot made, are all zero before, and anything after.
+    pub fn check_entries(&self, marks: &mut [u64]) -> bool
+        requires parents { parents_hold (decoded_nodes self.now.nodes.view) ≡ true }
+        requires marks_zero { (slots_made self.now.nodes.view.document ≤ length marks.old) × (marks.old ≡ replicate (length marks.old) 0) }
+        ensures { result ≡ entries_hold (decoded_nodes self.now.nodes.view) }
+    {
+        self.count_lists(marks) && all_entered(&self.nodes, marks)
+    }
 }
 
 // A live node that was not counted once has no parent.
-fn entered_once(d: Document, mem: &[u64], s: usize, mark: u64) -> bool
-    requires { (memory_ok d (length mem.now) ≡ true) × (s < slots_made d) × (words_hold d mem.now ≡ true) }
-    ensures { result ≡ implies (live_slot (decode_nodes d mem.now) s) (all_option (λ _. eqb mark 1) (parent_in (decode_nodes d mem.now) s)) }
+#[tactic(auto, using(crate::proofs::Words::live_slots), unfolding(layout::specs::Layout::memory_ok, layout::specs::Layout::document_words, model::specs::Doc::limits_ok))]
+fn entered_once(nodes: &Nodes<'_>, s: usize, mark: u64) -> bool
+    requires { s < slots_made nodes.now.view.document }
+    ensures { result ≡ implies (live_slot (decoded_nodes nodes.now.view) s) (all_option (λ _. eqb mark 1) (parent_in (decoded_nodes nodes.now.view) s)) }
 {
     if mark == 1 {
         return true;
     }
-    if is_live(d, mem, s) {
-        has_no_parent(d, mem, NodeSlot(s as u32))
+    if nodes.is_live(s) {
+        nodes.view.has_no_parent(NodeSlot(s as u32))
     } else {
         true
     }
 }
 
 // Whether each live node with a parent was counted once.
-fn all_entered(d: Document, mem: &[u64], marks: &[u64]) -> bool
-    requires { (memory_ok d (length mem.now) ≡ true) × (slots_made d ≤ length marks.now) × (words_hold d mem.now ≡ true) }
-    ensures { result ≡ all_below (marked_once (decode_nodes d mem.now) marks.now) (slots_made d) }
+fn all_entered(nodes: &Nodes<'_>, marks: &[u64]) -> bool
+    requires { slots_made nodes.now.view.document ≤ length marks.now }
+    ensures { result ≡ all_below (marked_once (decoded_nodes nodes.now.view) marks.now) (slots_made nodes.now.view.document) }
 {
-    for i in 0..made(d) {
-        if !entered_once(d, mem, i, marks[i]) {
+    for i in 0..made(nodes.view.document) {
+        if !entered_once(nodes, i, marks[i]) {
             return false;
         }
     }
     true
-}
-
-// Whether rule 4 holds, where rules 3 and 5 do, and rule 1 of the words. The marks, a word for each slot made, are all zero before, and anything after.
-pub fn check_entries(d: Document, mem: &[u64], marks: &mut [u64]) -> bool
-    requires mem_value { (memory_ok d (length mem.now) ≡ true) × (parents_hold (decode_nodes d mem.now) ≡ true) × (blocks_hold (decode_nodes d mem.now) ≡ true) × (words_hold d mem.now ≡ true) }
-    requires d_in_bounds { (slots_made d ≤ length marks.old) × (marks.old ≡ replicate (length marks.old) 0) }
-    ensures { result ≡ entries_hold (decode_nodes d mem.now) }
-{
-    count_lists(d, mem, marks) && all_entered(d, mem, marks)
 }

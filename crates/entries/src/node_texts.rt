@@ -7,25 +7,24 @@ ghost use Rattle.texts.specs.Words.{pool_ok, Markable, marked};
 ghost use Rattle.names.specs.Words.{table_ok};
 ghost use Rattle.model.specs.Doc.{live_slot, kind_in};
 ghost use Rattle.model.specs.Rules.{held_in, slots_held};
-ghost use Rattle.layout.specs.Layout.{limits_of, memory_ok};
+ghost use Rattle.layout.specs.Layout.{limits_of};
 ghost use Rattle.memory.specs.Decode.{slot_of, slots_made, counts_within, text_limits, text_counts, name_limits, name_counts, texts_part, names_part};
-ghost use Rattle.entries.specs.Nodes.{decode_nodes};
+ghost use Rattle.entries.specs.View.{decoded_nodes};
 ghost use Rattle.entries.specs.Marks.{Counted, Pass, gathered};
 ghost use Rattle.entries.specs.Fields.{slots_inside, names_inside, fields_hold, slots_once, pool_holds};
 
 use crate::nodes::{count, first_text, kind_of, name_of, second_text};
-use layout::Document;
-use memory::stored::{name_table, text_pool};
+use memory::view::View;
 use records::kind::{ATTR, ELEMENT};
 use words::TextSlot;
 
 // Whether the name number of an element or an attribute is below the name count.
-fn names_inside(d: Document, mem: &[u64], s: usize) -> bool
-    requires { (memory_ok d (length mem.now) ≡ true) × (live_slot (decode_nodes d mem.now) s ≡ true) }
-    ensures { result ≡ names_inside d.counts.names (kind_in (decode_nodes d mem.now) s) }
+fn names_inside(view: &View<'_>, s: usize) -> bool
+    requires { live_slot (decoded_nodes view.now) s ≡ true }
+    ensures { result ≡ names_inside view.now.document.counts.names (kind_in (decoded_nodes view.now) s) }
 {
-    match kind_of(d, mem, s) {
-        ELEMENT | ATTR => name_of(d, mem, s) < d.counts.names as u64,
+    match kind_of(view, s) {
+        ELEMENT | ATTR => name_of(view, s) < view.document.counts.names as u64,
         _ => true,
     }
 }
@@ -61,40 +60,38 @@ fn count_texts(
 }
 
 // The fields of a live slot.
-pub fn count_node(d: Document, mem: &[u64], s: usize, marks: &mut [u64]) -> bool
-    requires { (memory_ok d (length mem.now) ≡ true) × (live_slot (decode_nodes d mem.now) s ≡ true) × (d.counts.texts ≤ length marks.old) }
-    ensures { Pass (length marks.old) (fields_hold d.counts.texts d.counts.names (decode_nodes d mem.now) s) (held_in (decode_nodes d mem.now) s) marks.old marks.new result }
+pub fn count_node(view: &View<'_>, s: usize, marks: &mut [u64]) -> bool
+    requires { (live_slot (decoded_nodes view.now) s ≡ true) × (view.now.document.counts.texts ≤ length marks.old) }
+    ensures { Pass (length marks.old) (fields_hold view.now.document.counts.texts view.now.document.counts.names (decoded_nodes view.now) s) (held_in (decoded_nodes view.now) s) marks.old marks.new result }
 {
-    if !names_inside(d, mem, s) {
+    if !names_inside(view, s) {
         return false;
     }
-    let first = first_text(d, mem, s);
-    let second = second_text(d, mem, s);
-    count_texts(first, second, d.counts.texts, marks)
+    let first = first_text(view, s);
+    let second = second_text(view, s);
+    count_texts(first, second, view.document.counts.texts, marks)
 }
 
 // What the pool says of itself.
-fn texts_hold(d: Document, mem: &[u64]) -> bool
-    requires { memory_ok d (length mem.now) ≡ true }
-    ensures { result ≡ pool_ok (text_limits d) (text_counts d) (texts_part d mem.now) }
+fn texts_hold(view: &View<'_>) -> bool
+    ensures { result ≡ pool_ok (text_limits view.now.document) (text_counts view.now.document) (texts_part view.now.document view.now.words.now) }
 {
-    text_pool(d, mem).is_sound()
+    view.text_pool().is_sound()
 }
 
 // What the name table says of itself.
-fn names_hold(d: Document, mem: &[u64]) -> bool
-    requires { memory_ok d (length mem.now) ≡ true }
-    ensures { result ≡ table_ok (name_limits d) (name_counts d) (names_part d mem.now) }
+fn names_hold(view: &View<'_>) -> bool
+    ensures { result ≡ table_ok (name_limits view.now.document) (name_counts view.now.document) (names_part view.now.document view.now.words.now) }
 {
-    name_table(d, mem).check_names()
+    view.name_table().check_names()
 }
 
 // Counts the free text list.
-fn count_free(d: Document, mem: &[u64], marks: &mut [u64])
-    requires { (memory_ok d (length mem.now) ≡ true) × (d.counts.freetexts ≤ d.limits.texts) × Markable (part d.limits.texts d.counts.freetexts (texts_part d mem.now)) marks.old }
-    ensures { marks.new ≡ marked (part d.limits.texts d.counts.freetexts (texts_part d mem.now)) marks.old }
+fn count_free(view: &View<'_>, marks: &mut [u64])
+    requires { (view.now.document.counts.freetexts ≤ view.now.document.limits.texts) × Markable (part view.now.document.limits.texts view.now.document.counts.freetexts (texts_part view.now.document view.now.words.now)) marks.old }
+    ensures { marks.new ≡ marked (part view.now.document.limits.texts view.now.document.counts.freetexts (texts_part view.now.document view.now.words.now)) marks.old }
 {
-    let pool = text_pool(d, mem);
+    let pool = view.text_pool();
     texts::check::mark_free(pool.words, pool.limits, pool.counts, marks);
 }
 
@@ -107,27 +104,27 @@ fn all_once(marks: &[u64], texts: usize) -> bool
 }
 
 // Whether each text slot is held once, where the pool holds and the fields are counted: the free list is counted behind them.
-fn held_once(d: Document, mem: &[u64], marks: &mut [u64]) -> bool
-    requires mem_value { (memory_ok d (length mem.now) ≡ true) × (counts_within (limits_of d.limits) d.counts ≡ true) × (pool_ok (text_limits d) (text_counts d) (texts_part d mem.now) ≡ true) }
-    requires marks_len { (length marks.old ≡ d.counts.texts) × Counted d.counts.texts (gathered (held_in (decode_nodes d mem.now)) (slots_made d)) marks.old }
-    ensures { result ≡ slots_once d.counts.texts (decode_nodes d mem.now) (slots_made d) (part d.limits.texts d.counts.freetexts (texts_part d mem.now)) }
+fn held_once(view: &View<'_>, marks: &mut [u64]) -> bool
+    requires pool { (counts_within (limits_of view.now.document.limits) view.now.document.counts ≡ true) × (pool_ok (text_limits view.now.document) (text_counts view.now.document) (texts_part view.now.document view.now.words.now) ≡ true) }
+    requires marks_len { (length marks.old ≡ view.now.document.counts.texts) × Counted view.now.document.counts.texts (gathered (held_in (decoded_nodes view.now)) (slots_made view.now.document)) marks.old }
+    ensures { result ≡ slots_once view.now.document.counts.texts (decoded_nodes view.now) (slots_made view.now.document) (part view.now.document.limits.texts view.now.document.counts.freetexts (texts_part view.now.document view.now.words.now)) }
 {
-    count_free(d, mem, marks);
-    all_once(marks, d.counts.texts)
+    count_free(view, marks);
+    all_once(marks, view.document.counts.texts)
 }
 
 // Whether what rule 8 asks besides the fields holds, where the counts are within the limits (rule 1). The marks, a word for each text slot made, have the fields counted before,
 // and anything after.
-pub fn check_texts(d: Document, mem: &[u64], marks: &mut [u64]) -> bool
-    requires mem_value { (memory_ok d (length mem.now) ≡ true) × (counts_within (limits_of d.limits) d.counts ≡ true) }
-    requires marks_len { (length marks.old ≡ d.counts.texts) × Counted d.counts.texts (gathered (held_in (decode_nodes d mem.now)) (slots_made d)) marks.old }
-    ensures { result ≡ pool_holds d mem.now }
+pub fn check_texts(view: &View<'_>, marks: &mut [u64]) -> bool
+    requires counts { counts_within (limits_of view.now.document.limits) view.now.document.counts ≡ true }
+    requires marks_len { (length marks.old ≡ view.now.document.counts.texts) × Counted view.now.document.counts.texts (gathered (held_in (decoded_nodes view.now)) (slots_made view.now.document)) marks.old }
+    ensures { result ≡ pool_holds view.now.document view.now.words.now }
 {
-    if !texts_hold(d, mem) {
+    if !texts_hold(view) {
         return false;
     }
-    if !names_hold(d, mem) {
+    if !names_hold(view) {
         return false;
     }
-    held_once(d, mem, marks)
+    held_once(view, marks)
 }

@@ -1,5 +1,5 @@
 // A walk below a node, step by step.
-use crate::document::{Lent, NO_NODE};
+use crate::document::Lent;
 use exports::change::oxml_set_attribute;
 use exports::walk::{oxml_descendants_of, oxml_walk_next};
 
@@ -21,24 +21,21 @@ fn is_made(lent: &mut Lent) -> bool {
         b"d",
         b"v",
     );
-    started && made == [1, 2, 3, 4] && named == 0 && lent.element(3, b"f") == 6
+    started && made == [1, 2, 3, 4].map(Some) && named == 0 && lent.element(3, b"f") == Some(6)
 }
 
-// The node that the next step lists, and 0 at the end: the Root is below no node.
-fn next(lent: &Lent, position: &mut [u64; POSITION]) -> u64 {
+// The node that the next step lists, 0 at the end (the Root is below no node), none where the step is refused.
+fn next(lent: &Lent, position: &mut [u64; POSITION]) -> Option<u64> {
     let mut listed = [0; 2];
-    if oxml_walk_next(&lent.document, &lent.memory, position, &mut listed) == 0 {
-        listed[1]
-    } else {
-        NO_NODE
-    }
+    let answer = oxml_walk_next(&lent.document, &lent.memory, position, &mut listed);
+    (answer == 0).then_some(listed[1])
 }
 
 // Whether the first steps of the walk below a node list these.
 fn lists<const N: usize>(lent: &Lent, zone: u64, nodes: [u64; N]) -> bool {
     let mut at = [0; POSITION];
     oxml_descendants_of(&lent.document, &lent.memory, zone, &mut at) == 0
-        && nodes.iter().all(|node| next(lent, &mut at) == *node)
+        && nodes.iter().all(|node| next(lent, &mut at) == Some(*node))
 }
 
 // The walk below 1 lists 2, 3, 6 and 4, and stays at its end. Of the attribute, and of the stale handle (1, 1), nothing is listed.

@@ -10,9 +10,6 @@ const MEMORY: usize = 800;
 
 const SCRATCH: usize = 272;
 
-// No handle: its generation is odd.
-pub const NO_NODE: u64 = u64::MAX;
-
 // The words that each exported call is lent.
 #[derive(Drop)]
 pub struct Lent {
@@ -36,10 +33,10 @@ impl Lent {
         oxml_start(&mut self.document, &mut self.memory) == 0
     }
 
-    // The handle of a new element without a namespace.
-    pub fn element(&mut self, parent: u64, local: &[u8]) -> u64 {
-        let mut made = [NO_NODE];
-        oxml_append_element(
+    // The handle of a new element without a namespace, none where the call is refused.
+    pub fn element(&mut self, parent: u64, local: &[u8]) -> Option<u64> {
+        let mut made = [0];
+        let answer = oxml_append_element(
             &mut self.document,
             &mut self.memory,
             &mut self.scratch,
@@ -48,6 +45,6 @@ impl Lent {
             local,
             &mut made,
         );
-        made[0]
+        (answer == 0).then_some(made[0])
     }
 }

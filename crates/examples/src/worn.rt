@@ -1,5 +1,5 @@
 // Bench example 6: "Generation 4,294,967,294 freed, reused: 0."
-use crate::document::{Lent, NO_NODE};
+use crate::document::Lent;
 use exports::append::oxml_append_text;
 use exports::remove::{oxml_detach, oxml_remove};
 
@@ -8,10 +8,10 @@ const WORN: u64 = 18446744065119617025;
 
 const LAST: u64 = 4294967294;
 
-// The handle of a new text under the Root.
-fn space(lent: &mut Lent) -> u64 {
-    let mut made = [NO_NODE];
-    oxml_append_text(
+// The handle of a new text under the Root, none where the call is refused.
+fn space(lent: &mut Lent) -> Option<u64> {
+    let mut made = [0];
+    let answer = oxml_append_text(
         &mut lent.document,
         &mut lent.memory,
         &mut lent.scratch,
@@ -19,7 +19,7 @@ fn space(lent: &mut Lent) -> u64 {
         b" ",
         &mut made,
     );
-    made[0]
+    (answer == 0).then_some(made[0])
 }
 
 // Whether slot 1 holds a text without a parent, at the last even generation.
@@ -28,7 +28,7 @@ fn is_prepared(lent: &mut Lent) -> bool {
     let first = space(lent);
     let alone = oxml_detach(&mut lent.document, &mut lent.memory, &mut lent.scratch, 1);
     lent.memory[1] = LAST;
-    started && first == 1 && alone == 0
+    started && first == Some(1) && alone == 0
 }
 
 // What removing the text at that generation answers.
@@ -47,6 +47,6 @@ pub fn reused() -> bool {
     is_prepared(&mut lent)
         && removal(&mut lent) == 0
         && lent.memory[1] == LAST + 1
-        && space(&mut lent) == 1
+        && space(&mut lent) == Some(1)
         && removal(&mut lent) == 6
 }

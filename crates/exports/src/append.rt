@@ -5,7 +5,7 @@ ghost use Rattle.exports.specs.Contract.{Exported, as_made};
 use encoding::answer::{give_made, refused};
 use encoding::record::lent_record;
 use model::Refusal;
-use records::handle::id_of;
+use records::NodeId;
 
 // Stays: the C interface has a function for each call; what they have in common is `lent_record` and what gives the answer.
 // An element behind the parent's children. Rules out a handle that a refused call writes.
@@ -23,7 +23,7 @@ pub fn oxml_append_element(
     let Some(d) = lent_record(&document[..], made.len(), 1) else {
         return refused(Refusal::BadBuffers);
     };
-    let id = id_of(parent);
+    let id = NodeId::from(parent);
     let answer = appending::element::append_element(d, memory, scratch, id, namespace, local);
     give_made(document, made, answer)
 }
@@ -42,7 +42,7 @@ pub fn oxml_append_text(
     let Some(d) = lent_record(&document[..], made.len(), 1) else {
         return refused(Refusal::BadBuffers);
     };
-    let id = id_of(parent);
+    let id = NodeId::from(parent);
     let answer = appending::text::append_text(d, memory, scratch, id, text);
     give_made(document, made, answer)
 }
@@ -61,7 +61,7 @@ pub fn oxml_append_comment(
     let Some(d) = lent_record(&document[..], made.len(), 1) else {
         return refused(Refusal::BadBuffers);
     };
-    let id = id_of(parent);
+    let id = NodeId::from(parent);
     let answer = appending::comment::append_comment(d, memory, scratch, id, text);
     give_made(document, made, answer)
 }
@@ -81,7 +81,7 @@ pub fn oxml_append_pi(
     let Some(d) = lent_record(&document[..], made.len(), 1) else {
         return refused(Refusal::BadBuffers);
     };
-    let id = id_of(parent);
+    let id = NodeId::from(parent);
     let answer = appending::instruction::append_pi(d, memory, scratch, id, target, content);
     give_made(document, made, answer)
 }

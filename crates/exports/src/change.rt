@@ -6,7 +6,7 @@ ghost use Rattle.exports.specs.Contract.{Exported, as_done, as_made};
 use encoding::answer::{give_done, give_made, refused};
 use encoding::record::lent_record;
 use model::Refusal;
-use records::handle::id_of;
+use records::NodeId;
 
 // Stays: the C interface has a function for each call; what they have in common is `lent_record` and what gives the answer.
 // The text of a text node. Rules out another node's text.
@@ -22,7 +22,7 @@ pub fn oxml_set_text(
     let Some(d) = lent_record(&document[..], 0, 0) else {
         return refused(Refusal::BadBuffers);
     };
-    let id = id_of(id);
+    let id = NodeId::from(id);
     let answer = changing::text::set_text(d, memory, scratch, id, text);
     give_done(document, answer)
 }
@@ -42,7 +42,7 @@ pub fn oxml_set_attribute(
     let Some(d) = lent_record(&document[..], 0, 0) else {
         return refused(Refusal::BadBuffers);
     };
-    let id = id_of(element);
+    let id = NodeId::from(element);
     let answer = changing::attribute::set_attribute(
         d, memory, scratch, id, namespace, local, value,
     );
@@ -64,7 +64,7 @@ pub fn oxml_declare_namespace(
     let Some(d) = lent_record(&document[..], made.len(), 1) else {
         return refused(Refusal::BadBuffers);
     };
-    let id = id_of(element);
+    let id = NodeId::from(element);
     let answer = changing::namespace::declare_namespace(d, memory, scratch, id, prefix, uri);
     give_made(document, made, answer)
 }

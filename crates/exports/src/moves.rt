@@ -6,7 +6,7 @@ ghost use Rattle.exports.specs.Contract.{Exported, as_done};
 use encoding::answer::{give_done, refused};
 use encoding::record::lent_record;
 use model::Refusal;
-use records::handle::id_of;
+use records::NodeId;
 
 // Stays: the C interface has a function for each call; what they have in common is `lent_record` and what gives the answer.
 // A node goes behind another's children. Rules out child and parent swapped.
@@ -22,8 +22,8 @@ pub fn oxml_reparent(
     let Some(d) = lent_record(&document[..], 0, 0) else {
         return refused(Refusal::BadBuffers);
     };
-    let child_id = id_of(child);
-    let parent_id = id_of(parent);
+    let child_id = NodeId::from(child);
+    let parent_id = NodeId::from(parent);
     let answer = moving::moves::reparent(d, memory, scratch, child_id, parent_id);
     give_done(document, answer)
 }
@@ -42,8 +42,8 @@ pub fn oxml_insert_at(
     let Some(d) = lent_record(&document[..], 0, 0) else {
         return refused(Refusal::BadBuffers);
     };
-    let parent_id = id_of(parent);
-    let child_id = id_of(child);
+    let parent_id = NodeId::from(parent);
+    let child_id = NodeId::from(child);
     let answer = moving::moves::insert_at(d, memory, scratch, parent_id, at as usize, child_id);
     give_done(document, answer)
 }

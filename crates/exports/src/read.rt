@@ -10,7 +10,7 @@ use encoding::numbers::{give_key, give_kind, give_list, give_node, give_root, gi
 use encoding::record::lent_record;
 use layout::Arena;
 use model::Refusal;
-use records::handle::id_of;
+use records::NodeId;
 
 // Stays: the C interface has a function for each call; what they have in common is `lent_record` and what gives the answer.
 // The Root's handle, in one word. Rules out another.
@@ -30,7 +30,7 @@ pub fn oxml_parent(document: &[u64], memory: &[u64], id: u64, answer: &mut [u64]
     let Some(d) = lent_record(document, answer.len(), 2) else {
         return refused(Refusal::BadBuffers);
     };
-    give_node(answer, reading::node::parent(d, memory, id_of(id)))
+    give_node(answer, reading::node::parent(d, memory, NodeId::from(id)))
 }
 
 // 1 and the root element's handle, or 0 and 0. Rules out a child of the Root that is no element.
@@ -50,7 +50,10 @@ pub fn oxml_is_element(document: &[u64], memory: &[u64], id: u64, answer: &mut [
     let Some(d) = lent_record(document, answer.len(), 1) else {
         return refused(Refusal::BadBuffers);
     };
-    give_truth(answer, reading::node::is_element(d, memory, id_of(id)))
+    give_truth(
+        answer,
+        reading::node::is_element(d, memory, NodeId::from(id)),
+    )
 }
 
 // 1 and the position in document order, or 0 and 0. Rules out an old position.
@@ -60,7 +63,10 @@ pub fn oxml_order_key(document: &[u64], memory: &[u64], id: u64, answer: &mut [u
     let Some(d) = lent_record(document, answer.len(), 2) else {
         return refused(Refusal::BadBuffers);
     };
-    give_key(answer, reading::order::order_key(d, memory, id_of(id)))
+    give_key(
+        answer,
+        reading::order::order_key(d, memory, NodeId::from(id)),
+    )
 }
 
 // The block of a node's list in an arena, its start and length.
@@ -70,7 +76,10 @@ fn list(document: &[u64], memory: &[u64], id: u64, arena: Arena, answer: &mut [u
     let Some(d) = lent_record(document, answer.len(), 2) else {
         return refused(Refusal::BadBuffers);
     };
-    give_list(answer, reading::list::list(d, memory, id_of(id), arena))
+    give_list(
+        answer,
+        reading::list::list(d, memory, NodeId::from(id), arena),
+    )
 }
 
 // The block of a node's children, its start and length; `oxml_entries` shows it in arena 0. Rules out another list's.
@@ -101,5 +110,5 @@ pub fn oxml_kind(document: &[u64], memory: &[u64], id: u64, answer: &mut [u64]) 
     let Some(d) = lent_record(document, answer.len(), 8) else {
         return refused(Refusal::BadBuffers);
     };
-    give_kind(answer, reading::text::kind(d, memory, id_of(id)))
+    give_kind(answer, reading::text::kind(d, memory, NodeId::from(id)))
 }

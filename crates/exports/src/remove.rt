@@ -6,7 +6,7 @@ ghost use Rattle.exports.specs.Contract.{Exported, as_done, as_truth};
 use encoding::answer::{give_done, give_found, refused};
 use encoding::record::lent_record;
 use model::Refusal;
-use records::handle::id_of;
+use records::NodeId;
 
 // Stays: the C interface has a function for each call; what they have in common is `lent_record` and what gives the answer.
 // An attribute of an element goes, where there is one. Rules out 1 where there was none.
@@ -24,7 +24,7 @@ pub fn oxml_remove_attribute(
     let Some(d) = lent_record(&document[..], found.len(), 1) else {
         return refused(Refusal::BadBuffers);
     };
-    let id = id_of(element);
+    let id = NodeId::from(element);
     let answer = removing::attribute::remove_attribute(d, memory, scratch, id, namespace, local);
     give_found(document, found, answer)
 }
@@ -36,7 +36,7 @@ pub fn oxml_remove(document: &mut [u64], memory: &mut [u64], scratch: &mut [u64]
     let Some(d) = lent_record(&document[..], 0, 0) else {
         return refused(Refusal::BadBuffers);
     };
-    let id = id_of(id);
+    let id = NodeId::from(id);
     let answer = removing::remove::remove(d, memory, scratch, id);
     give_done(document, answer)
 }
@@ -48,7 +48,7 @@ pub fn oxml_detach(document: &mut [u64], memory: &mut [u64], scratch: &mut [u64]
     let Some(d) = lent_record(&document[..], 0, 0) else {
         return refused(Refusal::BadBuffers);
     };
-    let id = id_of(id);
+    let id = NodeId::from(id);
     let answer = removing::detach::detach(d, memory, scratch, id);
     give_done(document, answer)
 }

@@ -6,7 +6,7 @@ use encoding::numbers::give_count;
 use encoding::positions::{give_next, give_start, position_of};
 use encoding::record::lent_record;
 use model::Refusal;
-use records::handle::id_of;
+use records::NodeId;
 
 // Stays: the C interface has a function for each call; what they have in common is `lent_record` and what gives the answer.
 // A walk below the zone begins: seven words go to position. Rules out a refusal of a handle that is stale.
@@ -16,7 +16,7 @@ pub fn oxml_descendants_of(document: &[u64], memory: &[u64], zone: u64, position
     let Some(d) = lent_record(document, position.len(), 7) else {
         return refused(Refusal::BadBuffers);
     };
-    let id = id_of(zone);
+    let id = NodeId::from(zone);
     let answer = descendants::walk::descendants_of(d, memory, id);
     give_start(position, answer)
 }
@@ -31,7 +31,7 @@ pub fn oxml_walk_next(
     ensures { ExportedNext document.now memory.now position.old answer.old result position.new answer.new }
 {
     if answer.len() < 2 {
-        return 4;
+        return refused(Refusal::BadBuffers);
     }
     let Some(d) = lent_record(document, position.len(), 7) else {
         return refused(Refusal::BadBuffers);
@@ -54,7 +54,7 @@ pub fn oxml_list_below(
     let Some(d) = lent_record(document, answer.len(), 1) else {
         return refused(Refusal::BadBuffers);
     };
-    let id = id_of(zone);
+    let id = NodeId::from(zone);
     let written = descendants::list::list_below(d, memory, id, list);
     give_count(answer, written)
 }

@@ -170,8 +170,8 @@ module _ (d : Document) (mem : List ℕ) (ok : memory_ok d (length mem) ≡ true
 
   -- ---- the slot freed
 
-  pub slot-freeable : (memory_ok d (length mem) ≡ true) × (s < d.limits.nodes) × (d.counts.free < d.limits.nodes) × (generation_at d.limits.nodes (slots_part d mem) s < 4294967296)
-  slot-freeable = (ok, sb, fb, gb)
+  pub slot-freeable : (s < d.limits.nodes) × (d.counts.free < d.limits.nodes) × (generation_at d.limits.nodes (slots_part d mem) s < 4294967296)
+  slot-freeable = (sb, fb, gb)
 
   pub slot-freed : (mem' : List ℕ) → mem' ≡ put_slots (freed_words d.limits.nodes (slots_part d mem) d.counts.free s) mem
       → (free : ℕ) → free ≡ d.counts.free + 1 → (r : Document) → r ≡ with_slots d d.counts.slots free

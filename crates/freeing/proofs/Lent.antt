@@ -33,8 +33,8 @@ module _ (d : Document) (mem : List ℕ) (ok : memory_ok d (length mem) ≡ true
   held : Counted (text_limits d) (text_counts d) (texts_part d mem)
   held = texts-counted d mem ok r.counts r.lengths
 
-  pub slot-pushable : (memory_ok d (length mem) ≡ true) × Counted (text_limits d) (text_counts d) (texts_part d mem) × (d.counts.freetexts < d.limits.texts)
-  slot-pushable = (ok, held, omega (arith, r.room, ap (λ (p : Pool). length p.free) (pool-held d mem held), pool-free (text_limits d) (text_counts d) (texts_part d mem) held))
+  pub slot-pushable : Counted (text_limits d) (text_counts d) (texts_part d mem) × (d.counts.freetexts < d.limits.texts)
+  slot-pushable = (held, omega (arith, r.room, ap (λ (p : Pool). length p.free) (pool-held d mem held), pool-free (text_limits d) (text_counts d) (texts_part d mem) held))
 
   pub slot_pushed : (mem' : List ℕ) (t : TextCounts) → PushedTo (text_limits d) (text_counts d) (texts_part d mem) (texts_part d mem') s t → mem' ≡ put_texts d (texts_part d mem') mem
       → (after : Document) → after ≡ with_texts d t → Step d mem after mem' (set_pool (decode d mem) (pushed_all (decode d mem).pool (Some s ∷ [])))
@@ -60,8 +60,8 @@ module _ (d : Document) (mem : List ℕ) (ok : memory_ok d (length mem) ≡ true
       }
 
   pub texts-reclaimable : (scratch : List ℕ) → d.limits.texts ≤ length scratch
-      → (memory_ok d (length mem) ≡ true) × lower.Reclaimable (text_limits d) (text_counts d) (texts_part d mem) × (d.counts.texts ≤ length scratch)
-  texts-reclaimable scratch b = (ok, reclaimable, omega (arith, (counts-fit (limits_of d.limits) d.counts r.counts).texts))
+      → lower.Reclaimable (text_limits d) (text_counts d) (texts_part d mem) × (d.counts.texts ≤ length scratch)
+  texts-reclaimable scratch b = (reclaimable, omega (arith, (counts-fit (limits_of d.limits) d.counts r.counts).texts))
 
   pub texts-reclaimed : (mem' : List ℕ) (t : TextCounts) → ReclaimedTo (text_limits d) (text_counts d) (texts_part d mem) (texts_part d mem') t → mem' ≡ put_texts d (texts_part d mem') mem
       → (after : Document) → after ≡ with_texts d t → Step d mem after mem' (set_pool (decode d mem) (reclaimed (decode d mem).pool))

@@ -71,14 +71,6 @@ module _ (D : Doc) where
     held-length : length (slots_held (a ++ b)) ≡ length (slots_held a) + length (slots_held b)
     held-length = ap length (slots_held-append a b) ∙ length-append (slots_held a) (slots_held b)
 
-    pub releasable-first : Releasable D a
-    releasable-first =
-        record {
-          counts = r.counts;
-          lengths = r.lengths;
-          room = omega (arith, r.room, held-length);
-        }
-
     pub releasable-next : Releasable (set_pool D (pushed_all D.pool a)) b
     unfolding set_pool
     releasable-next =
@@ -107,9 +99,6 @@ module _ (d : Document) (mem : List ℕ) (field : Option TextSlot) where
       (sym (none-pushed (decode d mem)) ∙ ap (λ (f : Option TextSlot). set_pool (decode d mem) (pushed_all (decode d mem).pool (slot_of f ∷ []))) (sym e))
 
   module _ (t : TextSlot) (e : field ≡ Some t) where
-    pub field-releasable : Releasable (decode d mem) (slot_of field ∷ []) → Releasable (decode d mem) (Some t.0 ∷ [])
-    field-releasable r = subst (λ (f : Option TextSlot). Releasable (decode d mem) (slot_of f ∷ [])) e r
-
     pub field-pushed : (r : Document) (mem' : List ℕ) → Step d mem r mem' (set_pool (decode d mem) (pushed_all (decode d mem).pool (Some t.0 ∷ [])))
         → Step d mem r mem' (set_pool (decode d mem) (pushed_all (decode d mem).pool (slot_of field ∷ [])))
     field-pushed r mem' s = subst (λ (f : Option TextSlot). Step d mem r mem' (set_pool (decode d mem) (pushed_all (decode d mem).pool (slot_of f ∷ [])))) (sym e) s
@@ -149,9 +138,6 @@ module _ (d : Document) (mem : List ℕ) (m : NodeData) (r : Releasable (decode 
 
   both : Releasable (decode d mem) (fields_of first second)
   both = releasable-same (decode d mem) (texts_of (kind_of m)) (fields_of first second) (sym (ap₂ (λ (a b : Option TextSlot). slots_held (fields_of a b)) e f ∙ fields-held m)) r
-
-  pub first-releasable : Releasable (decode d mem) (slot_of first ∷ [])
-  first-releasable = releasable-first (decode d mem) (slot_of first ∷ []) (slot_of second ∷ []) both
 
   module _ (d₁ : Document) (mem₁ : List ℕ) (s : Step d mem d₁ mem₁ (set_pool (decode d mem) (pushed_all (decode d mem).pool (slot_of first ∷ [])))) where
     pub second-releasable : Releasable (decode d₁ mem₁) (slot_of second ∷ [])

@@ -6,9 +6,6 @@ use mathlib.Core.List.{List}
 use Prim.Native.Nat.{ℕ, ◌≤◌}
 use native.Mathlib.Omega.{arith}
 use lib.ListN.{length}
-use lib.Dec.{leb}
-use borrow.Author.Tests.{leb-true}
-use Rattle.words.proofs.Tests.{and_right}
 use Rattle.texts.specs.Pool.{reclaimed}
 use Rattle.model.specs.Doc.{Doc, resolves}
 use Rattle.model.specs.Rules.{Rules}
@@ -16,7 +13,7 @@ use Rattle.model.specs.Edits.{unhook, subtree, free_all}
 use Rattle.model.specs.Calls.{removed}
 use Rattle.layout.specs.declared.Limits.{Limits}
 use Rattle.layout.specs.declared.Document.{Document}
-use Rattle.layout.specs.Layout.{limits_of, scratch_words, memory_ok, buffers_ok}
+use Rattle.layout.specs.Layout.{limits_of, scratch_words, memory_ok}
 use Rattle.memory.specs.Decode.{pool_in, names_in, lengths_add, decode}
 use Rattle.memory.specs.Step.{Step}
 use Rattle.memory.proofs.Columns.{length-gens}
@@ -24,9 +21,8 @@ use Rattle.layout.proofs.Sizes.{sizes}
 use Rattle.memory.proofs.Shaped.{shape}
 use Rattle.edits.specs.Asked.{Hooked}
 use Rattle.edits.specs.Pooled.{set_pool}
-use Rattle.edits.proofs.Composed.{step-as, step-memory, step-next}
+use Rattle.edits.proofs.Composed.{step-as, step-next}
 use Rattle.edits.proofs.Ready.{rules-hooked}
-use Rattle.walks.proofs.Cleared.{buffers-memory, buffers-scratch}
 use Rattle.freeing.specs.Freed.{free_all_slots}
 use Rattle.freeing.specs.Asked.{SubtreeFreeable, Reclaimable}
 use Rattle.freeing.proofs.Room.{all-reclaimed}
@@ -34,11 +30,10 @@ use Rattle.freeing.proofs.Detached.{unhooked-freeable}
 
 -- ---- the nodes are freed, then the bytes of their texts given back
 
-module _ (d : Document) (mem : List ℕ) (ok : memory_ok d (length mem) ≡ true) (h : ℕ) (S : SubtreeFreeable (decode d mem) h) (e : Document) (mem₁ : List ℕ)
+module _ (d : Document) (mem : List ℕ) (h : ℕ) (S : SubtreeFreeable (decode d mem) h) (e : Document) (mem₁ : List ℕ)
     (s : Step d mem e mem₁ (free_all_slots (decode d mem) (subtree (decode d mem) h)) × Reclaimable (free_all_slots (decode d mem) (subtree (decode d mem) h))) where
-  pub nodes-reclaimable : (scratch : ℕ) → d.limits.texts ≤ scratch → (memory_ok e (length mem₁) ≡ true) × (e.limits.texts ≤ scratch) × Reclaimable (decode e mem₁)
+  pub nodes-reclaimable : (scratch : ℕ) → d.limits.texts ≤ scratch → (e.limits.texts ≤ scratch) × Reclaimable (decode e mem₁)
   nodes-reclaimable scratch b = (
-    step-memory d mem e mem₁ (free_all_slots (decode d mem) (subtree (decode d mem) h)) s.0 ok,
     subst (λ (l : Limits). l.texts ≤ scratch) (sym s.0.limits) b,
     subst Reclaimable (sym s.0.document) s.1,
   )
@@ -53,26 +48,23 @@ module _ (d : Document) (mem : List ℕ) (ok : memory_ok d (length mem) ≡ true
 
 -- ---- the whole
 
-scratch-texts : (d : Document) (mem scratch : ℕ) → buffers_ok d mem scratch ≡ true → d.limits.texts ≤ scratch
-unfolding buffers_ok scratch_words
-scratch-texts d mem scratch h =
-    let z = leb-true (scratch_words (limits_of d.limits)) scratch (and_right (memory_ok d mem) (leb (scratch_words (limits_of d.limits)) scratch) h) in
-    omega arith
+scratch-held : (d : Document) (scratch : ℕ) → scratch_words (limits_of d.limits) ≤ scratch → (d.limits.nodes ≤ scratch) × (d.limits.texts ≤ scratch)
+unfolding scratch_words
+scratch-held d scratch b = (omega arith, omega arith)
 
-module _ (d : Document) (mem : List ℕ) (scratch : ℕ) (ok : buffers_ok d (length mem) scratch ≡ true) (R : Rules (decode d mem)) (h : ℕ) (lh : resolves (decode d mem) h ≡ true) where
+module _ (d : Document) (mem : List ℕ) (ok : memory_ok d (length mem) ≡ true) (R : Rules (decode d mem)) (h : ℕ) (lh : resolves (decode d mem) h ≡ true) where
   pub node-hooked : Hooked d mem h
-  node-hooked = rules-hooked d mem (buffers-memory d (length mem) scratch ok) R h lh
+  node-hooked = rules-hooked d mem ok R h lh
 
   module _ (e : Document) (mem₁ : List ℕ) (s : Step d mem e mem₁ (unhook (decode d mem) h)) where
-    pub alone-freeable : (memory_ok e (length mem₁) ≡ true) × (e.limits.nodes ≤ scratch) × (e.limits.texts ≤ scratch) × SubtreeFreeable (decode e mem₁) h
-    alone-freeable =
-        let memory = buffers-memory d (length mem) scratch ok in (
-          step-memory d mem e mem₁ (unhook (decode d mem) h) s memory,
-          subst (λ (l : Limits). l.nodes ≤ scratch) (sym s.limits) (buffers-scratch d (length mem) scratch ok),
-          subst (λ (l : Limits). l.texts ≤ scratch) (sym s.limits) (scratch-texts d (length mem) scratch ok),
+    pub alone-freeable : (scratch : ℕ) → scratch_words (limits_of d.limits) ≤ scratch → (e.limits.nodes ≤ scratch) × (e.limits.texts ≤ scratch) × SubtreeFreeable (decode e mem₁) h
+    alone-freeable scratch b =
+        let z = scratch-held d scratch b in (
+          subst (λ (l : Limits). l.nodes ≤ scratch) (sym s.limits) z.0,
+          subst (λ (l : Limits). l.texts ≤ scratch) (sym s.limits) z.1,
           subst (λ (x : Doc). SubtreeFreeable x h) (sym s.document)
-              (unhooked-freeable (decode d mem) R (shape (pool_in d mem) (names_in d mem) (lengths_add d mem) d mem memory)
-              (omega (arith, length-gens (pool_in d mem) (names_in d mem) (lengths_add d mem) d mem, (sizes d (length mem) memory).nodes)) h lh),
+              (unhooked-freeable (decode d mem) R (shape (pool_in d mem) (names_in d mem) (lengths_add d mem) d mem ok)
+              (omega (arith, length-gens (pool_in d mem) (names_in d mem) (lengths_add d mem) d mem, (sizes d (length mem) ok).nodes)) h lh),
         )
 
     pub node-removed : (r : Document) (mem₂ : List ℕ) → Step e mem₁ r mem₂ (free_all (decode e mem₁) (subtree (decode e mem₁) h)) → Step d mem r mem₂ (removed (decode d mem) h)

@@ -129,7 +129,7 @@ module _ (d : Document) (mem₀ : List ℕ) (h : ℕ) where
       turn-left : 1 ≤ F.left
       turn-left = omega (arith, fits F.done (word ∷ (popped stack).entries) m, F.turns)
 
-      pub memory-freed : memory_ok document (length mem) ≡ true
+      memory-freed : memory_ok document (length mem) ≡ true
       memory-freed = step-memory d mem₀ document mem (free_all_slots D F.done) F.step ok
 
       module _ (s : ℕ) (e : s ≡ handle_index word) where

@@ -1,29 +1,27 @@
 // A node is freed.
-ghost use Rattle.std.specs.Prelude.{◌≡◌, true, length};
-ghost use Rattle.layout.specs.Layout.{memory_ok};
-ghost use Rattle.memory.specs.Decode.{decode};
-ghost use Rattle.memory.specs.Step.{Step};
+ghost use Rattle.memory.specs.Lent.{document_in, Stepped};
 ghost use Rattle.freeing.specs.Freed.{free_slot, free_node};
 ghost use Rattle.freeing.specs.Asked.{SlotFreeable, NodeFreeable};
 
 use crate::release::push_texts;
-use layout::Document;
 use layout::record::with_slots;
+use memory::lent::Lent;
 use words::NodeSlot;
 
-fn free_slot(d: Document, mem: &mut [u64], slot: NodeSlot) -> Document
-    requires { (memory_ok d (length mem.old) ≡ true) × SlotFreeable (decode d mem.old) slot.0 }
-    ensures { Step d mem.old result mem.new (free_slot (decode d mem.old) slot.0) }
+fn free_slot(lent: &mut Lent<'_>, slot: NodeSlot)
+    requires { SlotFreeable (document_in lent.old) slot.0 }
+    ensures { Stepped lent.old lent.new (free_slot (document_in lent.old) slot.0) }
 {
-    let free = memory::parts::free_slot(d, mem, slot);
-    with_slots(d, d.counts.slots, free)
+    let free = lent.free_slot(slot);
+    let made = lent.document.counts.slots;
+    lent.put_record(with_slots(lent.document, made, free));
 }
 
 // The node's text slots go on the free text list before its own slot is free.
-pub fn free_node(d: Document, mem: &mut [u64], slot: NodeSlot) -> Document
-    requires { (memory_ok d (length mem.old) ≡ true) × NodeFreeable (decode d mem.old) slot.0 }
-    ensures { Step d mem.old result mem.new (free_node (decode d mem.old) slot.0) }
+pub fn free_node(lent: &mut Lent<'_>, slot: NodeSlot)
+    requires { NodeFreeable (document_in lent.old) slot.0 }
+    ensures { Stepped lent.old lent.new (free_node (document_in lent.old) slot.0) }
 {
-    let pushed = push_texts(d, mem, slot);
-    free_slot(pushed, mem, slot)
+    push_texts(lent, slot);
+    free_slot(lent, slot);
 }

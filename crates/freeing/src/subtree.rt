@@ -6,52 +6,48 @@ ghost use Rattle.model.specs.Doc.{resolves, kind_at};
 ghost use Rattle.model.specs.Rules.{Rules};
 ghost use Rattle.model.specs.Edits.{subtree, free_all};
 ghost use Rattle.model.specs.Calls.{removed};
-ghost use Rattle.layout.specs.Layout.{memory_ok, buffers_ok};
-ghost use Rattle.memory.specs.Decode.{decode};
-ghost use Rattle.memory.specs.Step.{Step};
+ghost use Rattle.layout.specs.Layout.{limits_of, scratch_words};
+ghost use Rattle.memory.specs.Lent.{document_in, Stepped};
 ghost use Rattle.freeing.specs.Freed.{free_all_slots};
 ghost use Rattle.freeing.specs.Asked.{SubtreeFreeable, Reclaimable};
 
 use crate::node::free_node;
 use crate::release::reclaim_texts;
 use edits::hooks::unhook;
-use layout::Document;
+use memory::lent::Lent;
 use records::NodeId;
-use records::handle::word_of;
 use walks::list::push_lists;
 use walks::order::slot_of;
 use walks::stack::Stack;
 
 // Pushes children, attributes and namespaces, pops from the end, and frees each after pushing its own.
-fn free_nodes(d: Document, mem: &mut [u64], words: &mut [u64], id: NodeId) -> Document
-    requires { (memory_ok d (length mem.old) ≡ true) × (d.limits.nodes ≤ length words.old) × SubtreeFreeable (decode d mem.old) (word_of id) }
-    ensures step { Step d mem.old result mem.new (free_all_slots (decode d mem.old) (subtree (decode d mem.old) (word_of id))) }
-    ensures reclaimable { Reclaimable (free_all_slots (decode d mem.old) (subtree (decode d mem.old) (word_of id))) }
+fn free_nodes(lent: &mut Lent<'_>, words: &mut [u64], id: NodeId)
+    requires { (lent.old.document.limits.nodes ≤ length words.old) × SubtreeFreeable (document_in lent.old) (word_of id) }
+    ensures step { Stepped lent.old lent.new (free_all_slots (document_in lent.old) (subtree (document_in lent.old) (word_of id))) }
+    ensures reclaimable { Reclaimable (free_all_slots (document_in lent.old) (subtree (document_in lent.old) (word_of id))) }
 {
-    let mut stack = Stack::with_word(words, word_of(id));
-    let mut document = d;
+    let mut stack = Stack::with_word(words, u64::from(id));
     while let Some(word) = stack.pop() {
         let slot = slot_of(word);
-        push_lists(document, &mem[..], &mut stack, slot);
-        document = free_node(document, mem, slot);
+        push_lists(&lent.view(), &mut stack, slot);
+        free_node(lent, slot);
     }
-    document
 }
 
 // Each text slot is on the free text list then, and the bytes of all are given back at once. Scratch holds the stack, then the marks.
-fn free_subtree(d: Document, mem: &mut [u64], scratch: &mut [u64], id: NodeId) -> Document
-    requires { (memory_ok d (length mem.old) ≡ true) × (d.limits.nodes ≤ length scratch.old) × (d.limits.texts ≤ length scratch.old) × SubtreeFreeable (decode d mem.old) (word_of id) }
-    ensures { Step d mem.old result mem.new (free_all (decode d mem.old) (subtree (decode d mem.old) (word_of id))) }
+fn free_subtree(lent: &mut Lent<'_>, scratch: &mut [u64], id: NodeId)
+    requires { (lent.old.document.limits.nodes ≤ length scratch.old) × (lent.old.document.limits.texts ≤ length scratch.old) × SubtreeFreeable (document_in lent.old) (word_of id) }
+    ensures { Stepped lent.old lent.new (free_all (document_in lent.old) (subtree (document_in lent.old) (word_of id))) }
 {
-    let freed = free_nodes(d, mem, scratch, id);
-    reclaim_texts(freed, mem, scratch)
+    free_nodes(lent, scratch, id);
+    reclaim_texts(lent, scratch);
 }
 
 // The node is taken off its parent, then freed with all below it. Scratch holds anything after.
-pub fn do_remove(d: Document, mem: &mut [u64], scratch: &mut [u64], id: NodeId) -> Document
-    requires { (buffers_ok d (length mem.old) (length scratch.old) ≡ true) × Rules (decode d mem.old) × (resolves (decode d mem.old) (word_of id) ≡ true) × (is_root (kind_at (decode d mem.old) (word_of id)) ≡ false) }
-    ensures { Step d mem.old result mem.new (removed (decode d mem.old) (word_of id)) }
+pub fn do_remove(lent: &mut Lent<'_>, scratch: &mut [u64], id: NodeId)
+    requires { (scratch_words (limits_of lent.old.document.limits) ≤ length scratch.old) × Rules (document_in lent.old) × (resolves (document_in lent.old) (word_of id) ≡ true) × (is_root (kind_at (document_in lent.old) (word_of id)) ≡ false) }
+    ensures { Stepped lent.old lent.new (removed (document_in lent.old) (word_of id)) }
 {
-    let alone = unhook(d, mem, id);
-    free_subtree(alone, mem, scratch, id)
+    unhook(lent, id);
+    free_subtree(lent, scratch, id);
 }

@@ -124,6 +124,11 @@ pub memory-record : (d : Document) (mem : ℕ) (counts : Counts) (current : Bool
 unfolding memory_ok
 memory-record d mem counts current h = h
 
+-- nor at anything but the limits
+pub memory-same : (d r : Document) (mem : ℕ) → r.limits ≡ d.limits → memory_ok d mem ≡ true → memory_ok r mem ≡ true
+unfolding memory_ok
+memory-same d r mem e h = rw e h
+
 -- what test 4 tells of a buffer of mem words
 pub record Sizes (d : Document) (mem : ℕ) : Type 0 where
   pub nodes : d.limits.nodes ≤ 65536

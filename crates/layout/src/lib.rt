@@ -3,7 +3,8 @@
 
 ghost use Rattle.std.specs.Prelude.{◌≡◌, true, ◌+◌};
 ghost use Rattle.model.specs.Doc.{limits_ok};
-ghost use Rattle.layout.specs.Layout.{which_of, limits_of, arena_at, texts_at, texts_words, names_at, names_words, document_words, scratch_words, memory_ok, buffers_ok};
+ghost use Rattle.slots.specs.Regions.{slots_words};
+ghost use Rattle.layout.specs.Layout.{which_of, limits_of, slots_at, arena_at, arena_words, texts_at, texts_words, names_at, names_words, document_words, scratch_words, memory_ok, buffers_ok};
 
 use slots::region::SLOT_WORDS;
 use std::ops::Range;
@@ -82,6 +83,7 @@ pub fn arena_limit(l: Limits, arena: Arena) -> usize
     }
 }
 
+// Stays, here and below: limits are any numbers before test 4, and a type for those that pass would be made anew of the record's at each use.
 // Where an arena starts: after the words of each slot, one behind the other.
 #[tactic(auto, unfolding(crate::specs::Layout::arena_at))]
 pub fn arena_at(l: Limits, arena: Arena) -> usize
@@ -94,6 +96,25 @@ pub fn arena_at(l: Limits, arena: Arena) -> usize
         Arena::Attributes => slots + 2 * l.children,
         Arena::Namespaces => slots + 2 * l.children + 2 * l.attributes,
     }
+}
+
+// Where the words of the slots lie.
+pub fn slots_range(l: Limits) -> Range<usize>
+    requires { limits_ok (limits_of l) ≡ true }
+    ensures start { result.start ≡ slots_at }
+    ensures end { result.end ≡ result.start + slots_words l.nodes }
+{
+    0..SLOT_WORDS * l.nodes
+}
+
+// Where the words of an arena lie.
+pub fn arena_range(l: Limits, arena: Arena) -> Range<usize>
+    requires { limits_ok (limits_of l) ≡ true }
+    ensures start { result.start ≡ arena_at (limits_of l) (which_of arena) }
+    ensures end { result.end ≡ result.start + arena_words (limits_of l) (which_of arena) }
+{
+    let start = arena_at(l, arena);
+    start..start + 2 * arena_limit(l, arena)
 }
 
 // Where the texts start.

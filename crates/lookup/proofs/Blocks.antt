@@ -5,7 +5,6 @@ use mathlib.Core.Path.{◌≡◌, sym, ap, ◌∙◌}
 use mathlib.Core.Bool.{Bool, true, false, ◌&&◌, cond}
 use mathlib.Core.List.{List}
 use Prim.Native.Nat.{ℕ, ◌<◌}
-use lib.ListN.{length}
 use Rattle.words.proofs.Tests.{and_left}
 use Rattle.blocks.specs.Arena.{Block, block}
 use Rattle.blocks.specs.Held.{Held}
@@ -19,7 +18,7 @@ use Rattle.model.specs.Kinds.{Which}
 use Rattle.model.specs.Doc.{Doc, resolves, live_slot, range_in}
 use Rattle.model.specs.Rules.{block_in}
 use Rattle.layout.specs.declared.Document.{Document}
-use Rattle.layout.specs.Layout.{limits_of, entries_of, memory_ok}
+use Rattle.layout.specs.Layout.{entries_of}
 use Rattle.memory.specs.Decode.{block_of, range_of, arena_part, arena_used, resolved_in, pool_in, names_in, lengths_add, decode}
 use Rattle.memory.proofs.Columns.{resolved-found, range-found}
 use Rattle.memory.proofs.Shaped.{length-arena_part}
@@ -45,11 +44,8 @@ module _ (d : Document) (mem : List ℕ) (h : NodeId) (hi : h.index < 4294967296
     own_block = ap (λ (t : Bool). cond t (range_in D w h.index) (block 0 0)) live ∙ own_range
 
     -- a live node's block lies in the arena with its capacity
-    pub block_held : Undamaged d mem → (memory_ok d (length mem) ≡ true) × Held (arena_part d w mem) ((limits_of d.limits).entries w) (arena_used d w) r.start r.len
-    block_held u = (
-      u.memory,
-      rw own_block at (held (arena_part d w mem) (entries_of d.limits w) (arena_used d w) h.index (block_in D w) (length-arena_part d mem u.memory w) (u.rules.blocks w)),
-    )
+    pub block_held : Undamaged d mem → Held (arena_part d w mem) (entries_of d.limits w) (arena_used d w) r.start r.len
+    block_held u = rw own_block at (held (arena_part d w mem) (entries_of d.limits w) (arena_used d w) h.index (block_in D w) (length-arena_part d mem u.memory w) (u.rules.blocks w))
 
     -- a test of the block, for every handle
     pub block-found : (f : Block → Bool) (t : Bool) → t ≡ f (block_of r) → t ≡ (resolves (decode d mem) (word_of h) && f (range_in (decode d mem) w (handle_index (word_of h))))

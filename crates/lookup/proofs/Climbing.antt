@@ -7,7 +7,6 @@ use mathlib.Core.Bool.{Bool, true, false}
 use mathlib.Core.List.{List}
 use Prim.Native.Nat.{ℕ, suc, ◌+◌, ◌-◌, ◌≤◌, ◌<◌}
 use native.Mathlib.Omega.{arith}
-use native.Mathlib.Nat.{sub-zero}
 use lib.ListN.{length, get_or-eq_default}
 use borrow.Author.Tests.{eq-eqb, ne_eqb}
 use Rattle.words.specs.Lists.{tabulate}
@@ -36,9 +35,6 @@ module _ (d : Document) (mem : List ℕ) (w made : ℕ) (em : made ≡ slots_mad
 pub record Climbed (D : Doc) (n c p k q : ℕ) : Type 0 where
   pub within : k ≤ n
   pub rest : on_path n D c p ≡ on_path (n - k) D c q
-
-pub climbed-start : (D : Doc) (n c p : ℕ) → Climbed D n c p 0 p
-climbed-start D n c p = record { within = omega arith; rest = rw sub-zero }
 
 module _ (D : Doc) (n c p k q : ℕ) (at : Climbed D n c p k q) where
   module _ (b : k < n) where

@@ -13,7 +13,7 @@ use Rattle.words.specs.Pieces.{same_bytes}
 use Rattle.words.proofs.Bytes.{same_bytes-comm}
 use Rattle.words.proofs.Lists.{length-tabulate}
 use Rattle.words.proofs.Tests.{and_left, and_right}
-use Rattle.blocks.specs.Arena.{Block, list_of}
+use Rattle.blocks.specs.Arena.{list_of}
 use Rattle.blocks.proofs.Capacities.{capacity-least}
 use Rattle.records.specs.Handles.{word_of, handle_index, handle_generation}
 use Rattle.records.specs.declared.NodeId.{NodeId}
@@ -79,17 +79,17 @@ module _ (d : Document) (mem : List ℕ) (h : NodeId) (hi : h.index < 4294967296
   module _ (m : Node) (e : resolved_in d mem h ≡ Some m) (r : Range) (q : block_of r ≡ range_of w m) where
     pub list_inside : Undamaged d mem → r.start + r.len ≤ entries_of d.limits w
     list_inside u =
-        let k = (block_held d mem h hi hg w m e r q u).1 in
+        let k = block_held d mem h hi hg w m e r q u in
         let c : r.len ≤ _ = capacity-least (drop (entries_of d.limits w) (arena_part d w mem)) (block_of r) in
         omega (arith, k.inside, k.fits)
 
-    pub found_in : (p : ℕ → Bool) → find p (list_of (arena_in d w mem) (block_of r)) ≡ find p (list_at (decode d mem) w (word_of h))
-    found_in p =
-        sym (ap (λ (i : ℕ). find p (list_of (arena_in d w mem) (range_in (decode d mem) w i))) (handle_index-word_of h hi)
-        ∙ ap (λ (b : Block). find p (list_of (arena_in d w mem) b)) (own_range d mem h hi hg w m e r q))
+    pub list-shown : list_of (arena_in d w mem) (block_of r) ≡ list_at (decode d mem) w (word_of h)
+    list-shown =
+        sym (ap (λ (i : ℕ). list_of (arena_in d w mem) (range_in (decode d mem) w i)) (handle_index-word_of h hi)
+        ∙ ap (list_of (arena_in d w mem)) (own_range d mem h hi hg w m e r q))
 
-  pub found-stale : resolved_in d mem h ≡ None → resolves (decode d mem) (word_of h) ≡ true → {A : Type 0} → A
-  found-stale e live = absurd (false≢true (sym (resolves-stale d mem h hi hg e) ∙ live))
+  pub list-stale : resolved_in d mem h ≡ None → resolves (decode d mem) (word_of h) ≡ true → {A : Type 0} → A
+  list-stale e live = absurd (false≢true (sym (resolves-stale d mem h hi hg e) ∙ live))
 
 -- ---- what was found is a live node of its kind under the element (rule 4)
 

@@ -1,9 +1,9 @@
+pub mod Kept
 pub mod Viewed
 pub mod Climbing
 pub mod Blocks
 pub mod Rooted
 pub mod Found
-pub mod Entries
 pub mod Counts
 pub mod Named
 pub mod Shown

@@ -14,7 +14,7 @@ use Rattle.model.specs.Calls.{name_fits_in}
 use Rattle.layout.specs.declared.Document.{Document}
 use Rattle.memory.specs.Decode.{name_limits, name_counts, names_part, names_in, texts_add, names_add, lengths_add, decode}
 use Rattle.memory.proofs.Shown.{names-held}
-use Rattle.memory.proofs.Lent.{names-length}
+use Rattle.memory.proofs.PoolAndTable.{names-length}
 use Rattle.memory.specs.Undamaged.{Undamaged}
 use Rattle.lookup.proofs.Counts.{counts-within}
 

@@ -2,7 +2,7 @@
 -- Assumes nothing.
 use Rattle.std.specs.Prelude.{None, Some}
 use mathlib.Core.Path.{◌≡◌, refl, sym, ap, ◌∙◌}
-use mathlib.Core.Bool.{Bool, true, false, ◌&&◌, cond}
+use mathlib.Core.Bool.{Bool, true, ◌&&◌, cond}
 use mathlib.Core.List.{List}
 use Prim.Native.Nat.{ℕ, ◌+◌, ◌≤◌}
 use native.Mathlib.Omega.{arith}
@@ -12,17 +12,15 @@ use borrow.Author.Tests.{le-leb}
 use Rattle.words.specs.Lists.{find}
 use Rattle.blocks.specs.Arena.{Block, block, list_of}
 use Rattle.blocks.proofs.Capacities.{capacity-least}
-use Rattle.records.specs.Handles.{word_of, id_of}
 use Rattle.records.specs.declared.NodeId.{NodeId}
 use Rattle.records.specs.declared.Range.{Range}
 use Rattle.records.specs.declared.Node.{Node}
-use Rattle.records.proofs.Handles.{word_of-id_of}
-use Rattle.model.specs.Kinds.{children, is_element}
-use Rattle.model.specs.Doc.{Doc, root_handle, resolves, kind_at, range_in, in_arena, pair_at, bytes_at, node_at, view_at, any_option, shown_block, shows_element, root_element}
+use Rattle.model.specs.Kinds.{children}
+use Rattle.model.specs.Doc.{Doc, root_handle, range_in, in_arena, shown_block, shows_element, root_element}
 use Rattle.layout.specs.declared.Document.{Document}
 use Rattle.memory.specs.Decode.{block_of, arena_part, arena_in, resolved_in, decode}
 use Rattle.memory.specs.Undamaged.{Undamaged}
-use Rattle.lookup.proofs.Viewed.{element-kind, resolves-found, resolves-stale}
+use Rattle.lookup.proofs.Viewed.{resolves-found, resolves-stale}
 use Rattle.lookup.proofs.Blocks.{own_range, block_held}
 
 abbrev top : NodeId
@@ -38,7 +36,7 @@ module _ (d : Document) (mem : List ℕ) (u : Undamaged d mem) where
       → (block_of m.children ≡ shown_block (decode d mem) children root_handle) × (m.children.start + m.children.len ≤ d.limits.children)
   root-block m e =
       let r = m.children in
-      let h = (block_held d mem top (omega arith) (omega arith) children m e r refl u).1 in
+      let h = block_held d mem top (omega arith) (omega arith) children m e r refl u in
       let c : r.len ≤ _ = capacity-least (drop d.limits.children (arena_part d children mem)) (block_of r) in
       let k : range_in D children 0 ≡ block_of r = own_range d mem top (omega arith) (omega arith) children m e r refl in
       let i : leb (r.start + r.len) (arena_in d children mem).used ≡ true = le-leb (r.start + r.len) (arena_in d children mem).used (omega (arith, h.inside)) in
@@ -51,19 +49,6 @@ module _ (d : Document) (mem : List ℕ) (u : Undamaged d mem) where
 
   pub no-root-block : resolved_in d mem (record { index = 0; generation = 0 }) ≡ None → block 0 0 ≡ shown_block (decode d mem) children root_handle
   no-root-block e = sym (ap (λ (t : Bool). cond (t && in_arena D children 0) (range_in D children 0) (block 0 0)) (resolves-stale d mem top (omega arith) (omega arith) e))
-
--- ---- the element
-
-shown-element : (D : Doc) (h : ℕ) → any_option is_element (view_at D h) ≡ shows_element D h
-shown-element D h = go (resolves D h)
-  where
-    go : (t : Bool) → any_option is_element (cond t (Some (node_at D h)) None) ≡ (t && is_element (kind_at D h))
-    go true = element-kind (pair_at D) (bytes_at D) (kind_at D h)
-    go false = refl
-
-pub shows-at : (D : Doc) (w : ℕ) (id : NodeId) (r : Bool) → id ≡ id_of w → r ≡ any_option is_element (view_at D (word_of id)) → r ≡ shows_element D w
-shows-at D w id r e q =
-    q ∙ shown-element D (word_of id) ∙ ap (shows_element D) (ap word_of e ∙ word_of-id_of w)
 
 pub root-listed : (d : Document) (mem : List ℕ) (b : Range) → block_of b ≡ shown_block (decode d mem) children root_handle
     → find (shows_element (decode d mem)) (list_of (arena_in d children mem) (block_of b)) ≡ root_element (decode d mem)

@@ -18,7 +18,7 @@ use Rattle.memory.specs.Decode.{name_limits, name_counts, names_part, decode}
 use Rattle.memory.specs.Stored.{text_in, name_part}
 use Rattle.memory.specs.Undamaged.{Undamaged}
 use Rattle.memory.proofs.Shown.{name-shown}
-use Rattle.memory.proofs.Lent.{texts-shown}
+use Rattle.memory.proofs.PoolAndTable.{texts-shown}
 use Rattle.lookup.proofs.Named.{held}
 
 module _ (d : Document) (mem : List ℕ) where

@@ -1,21 +1,21 @@
 // The attribute with a name, and the namespace node with a prefix: the first in the element's list. Pairs and prefixes are compared by
 // their bytes, since no rule says that the name table holds a pair once.
-ghost use Rattle.std.specs.Prelude.{◌≡◌, true, length};
+ghost use Rattle.std.specs.Prelude.{◌≡◌, true};
 ghost use Rattle.records.specs.Handles.{word_of};
-ghost use Rattle.names.specs.Table.{name, same_name};
+ghost use Rattle.names.specs.Expanded.{expanded};
+ghost use Rattle.names.specs.Table.{same_name};
 ghost use Rattle.model.specs.Kinds.{root};
-ghost use Rattle.model.specs.Doc.{resolves, kind_at, pair_at, or_else};
+ghost use Rattle.model.specs.Doc.{resolves, kind_at, pair_at, or_else, list_at};
 ghost use Rattle.model.specs.Calls.{has_name, find_attribute, has_prefix, find_namespace};
-ghost use Rattle.layout.specs.Layout.{memory_ok};
-ghost use Rattle.memory.specs.Decode.{kind_of, kind_loaded, decode, handle_of};
-ghost use Rattle.memory.specs.Undamaged.{Undamaged};
+ghost use Rattle.layout.specs.Layout.{which_of};
+ghost use Rattle.memory.specs.Decode.{kind_of, kind_loaded, handle_of};
+ghost use Rattle.memory.specs.View.{decoded};
 
 use crate::stored::{name_bytes, text_bytes};
-use layout::{Arena, Document};
-use memory::parts::block_words;
-use memory::read::{load, made, range_of, resolve};
-use names::NamePart;
-use records::handle::id_of;
+use layout::Arena;
+use memory::read::{made, range_of};
+use memory::view::{Undamaged, View};
+use names::{ExpandedName, NamePart};
 use records::{Node, NodeData, NodeId};
 use words::pieces::same_bytes;
 use words::{NameId, NodeSlot};
@@ -23,91 +23,79 @@ use words::{NameId, NodeSlot};
 fn loaded_data(node: Option<Node>) -> NodeData
     ensures { kind_of result ≡ or_else root (kind_loaded node) }
 {
-    match node {
-        Some(found) => found.data,
-        None => NodeData::Root,
-    }
+    node.map_or(NodeData::Root, |found| found.data)
 }
 
 // What the node in a handle's slot is.
-fn data_of(d: Document, mem: &[u64], word: u64) -> NodeData
-    requires { memory_ok d (length mem.now) ≡ true }
-    ensures { kind_of result ≡ kind_at (decode d mem.now) word }
+fn data_of(view: &View<'_>, word: u64) -> NodeData
+    ensures { kind_of result ≡ kind_at (decoded view.now) word }
 {
     let index = word % 4294967296;
-    if index < made(d) as u64 {
-        return loaded_data(load(d, mem, NodeSlot(index as u32)));
+    if index < made(view.document) as u64 {
+        return loaded_data(view.load(NodeSlot(index as u32)));
     }
     NodeData::Root
 }
 
 // Whether the pair of a number is this one.
-fn same_pair(d: Document, mem: &[u64], number: NameId, namespace: &[u8], local: &[u8]) -> bool
-    requires { Undamaged d mem.now }
-    ensures { result ≡ same_name (name namespace.now local.now) (pair_at (decode d mem.now) number.0) }
+fn same_pair(doc: &Undamaged<'_>, number: NameId, name: ExpandedName<'_>) -> bool
+    ensures { result ≡ same_name (expanded name.entry) (pair_at (decoded doc.now.view) number.0) }
 {
-    same_bytes(name_bytes(d, mem, number, NamePart::Namespace), namespace)
-        && same_bytes(name_bytes(d, mem, number, NamePart::Local), local)
+    same_bytes(name_bytes(doc, number, NamePart::Namespace), name.namespace)
+        && same_bytes(name_bytes(doc, number, NamePart::Local), name.local)
 }
 
-fn has_name(d: Document, mem: &[u64], word: u64, namespace: &[u8], local: &[u8]) -> bool
-    requires { Undamaged d mem.now }
-    ensures { result ≡ has_name (decode d mem.now) (name namespace.now local.now) word }
+fn has_name(doc: &Undamaged<'_>, word: u64, name: ExpandedName<'_>) -> bool
+    ensures { result ≡ has_name (decoded doc.now.view) (expanded name.entry) word }
 {
-    match data_of(d, mem, word) {
-        NodeData::Attr { name, .. } => same_pair(d, mem, name, namespace, local),
+    match data_of(&doc.view, word) {
+        NodeData::Attr { name: own, .. } => same_pair(doc, own, name),
         _ => false,
     }
 }
 
-fn has_prefix(d: Document, mem: &[u64], word: u64, prefix: &[u8]) -> bool
-    requires { Undamaged d mem.now }
-    ensures { result ≡ has_prefix (decode d mem.now) prefix.now word }
+fn has_prefix(doc: &Undamaged<'_>, word: u64, prefix: &[u8]) -> bool
+    ensures { result ≡ has_prefix (decoded doc.now.view) prefix.now word }
 {
-    match data_of(d, mem, word) {
-        NodeData::Namespace { prefix: own, .. } => same_bytes(text_bytes(d, mem, own), prefix),
+    match data_of(&doc.view, word) {
+        NodeData::Namespace { prefix: own, .. } => same_bytes(text_bytes(doc, own), prefix),
         _ => false,
+    }
+}
+
+// The handles of a list of a node that resolves.
+fn listed<'a>(doc: &Undamaged<'a>, element: NodeId, arena: Arena) -> &'a [u64]
+    requires { resolves (decoded doc.now.view) (word_of element) ≡ true }
+    ensures { result.now ≡ list_at (decoded doc.now.view) (which_of arena) (word_of element) }
+{
+    match doc.view.resolve(element) {
+        Some(node) => doc.view.block_words(arena, range_of(node, arena)),
+        None => &[],
     }
 }
 
 pub fn find_attribute(
-    d: Document,
-    mem: &[u64],
+    doc: &Undamaged<'_>,
     element: NodeId,
-    namespace: &[u8],
-    local: &[u8],
+    name: ExpandedName<'_>,
 ) -> Option<NodeId>
-    requires undamaged { Undamaged d mem.now }
-    requires element_value { resolves (decode d mem.now) (word_of element) ≡ true }
-    ensures { handle_of result ≡ find_attribute (decode d mem.now) (word_of element) (name namespace.now local.now) }
+    requires { resolves (decoded doc.now.view) (word_of element) ≡ true }
+    ensures { handle_of result ≡ find_attribute (decoded doc.now.view) (word_of element) (expanded name.entry) }
 {
-    match resolve(d, mem, element) {
-        Some(node) => {
-            let block = range_of(node, Arena::Attributes);
-            block_words(d, mem, Arena::Attributes, block)
-                .iter()
-                .copied()
-                .find(|&word| has_name(d, mem, word, namespace, local))
-                .map(id_of)
-        }
-        None => None,
-    }
+    listed(doc, element, Arena::Attributes)
+        .iter()
+        .copied()
+        .find(|&word| has_name(doc, word, name))
+        .map(NodeId::from)
 }
 
-pub fn find_namespace(d: Document, mem: &[u64], element: NodeId, prefix: &[u8]) -> Option<NodeId>
-    requires undamaged { Undamaged d mem.now }
-    requires element_value { resolves (decode d mem.now) (word_of element) ≡ true }
-    ensures { handle_of result ≡ find_namespace (decode d mem.now) (word_of element) prefix.now }
+pub fn find_namespace(doc: &Undamaged<'_>, element: NodeId, prefix: &[u8]) -> Option<NodeId>
+    requires { resolves (decoded doc.now.view) (word_of element) ≡ true }
+    ensures { handle_of result ≡ find_namespace (decoded doc.now.view) (word_of element) prefix.now }
 {
-    match resolve(d, mem, element) {
-        Some(node) => {
-            let block = range_of(node, Arena::Namespaces);
-            block_words(d, mem, Arena::Namespaces, block)
-                .iter()
-                .copied()
-                .find(|&word| has_prefix(d, mem, word, prefix))
-                .map(id_of)
-        }
-        None => None,
-    }
+    listed(doc, element, Arena::Namespaces)
+        .iter()
+        .copied()
+        .find(|&word| has_prefix(doc, word, prefix))
+        .map(NodeId::from)
 }

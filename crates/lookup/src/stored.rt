@@ -2,23 +2,21 @@
 ghost use Rattle.std.specs.Prelude.{◌≡◌};
 ghost use Rattle.names.specs.Words.{part_of};
 ghost use Rattle.model.specs.Doc.{bytes_at, pair_at};
-ghost use Rattle.memory.specs.Decode.{slot_of, decode};
-ghost use Rattle.memory.specs.Undamaged.{Undamaged};
+ghost use Rattle.memory.specs.Decode.{slot_of};
+ghost use Rattle.memory.specs.View.{decoded};
 
-use layout::Document;
+use memory::view::Undamaged;
 use names::NamePart;
 use words::{NameId, TextSlot};
 
-pub fn text_bytes(d: Document, mem: &[u64], text: Option<TextSlot>) -> &[u64]
-    requires { Undamaged d mem.now }
-    ensures { result.now ≡ bytes_at (decode d mem.now) (slot_of text) }
+pub fn text_bytes<'a>(doc: &Undamaged<'a>, text: Option<TextSlot>) -> &'a [u64]
+    ensures { result.now ≡ bytes_at (decoded doc.now.view) (slot_of text) }
 {
-    memory::stored::text_bytes(d, mem, text)
+    doc.view.text_bytes(text)
 }
 
-pub fn name_bytes(d: Document, mem: &[u64], number: NameId, part: NamePart) -> &[u64]
-    requires { Undamaged d mem.now }
-    ensures { result.now ≡ part_of part (pair_at (decode d mem.now) number.0) }
+pub fn name_bytes<'a>(doc: &Undamaged<'a>, number: NameId, part: NamePart) -> &'a [u64]
+    ensures { result.now ≡ part_of part (pair_at (decoded doc.now.view) number.0) }
 {
-    memory::stored::name_bytes(d, mem, number, part)
+    doc.view.name_bytes(number, part)
 }

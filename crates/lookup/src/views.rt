@@ -1,16 +1,17 @@
 // What the checks of a call see of a handle: whether it resolves, and the kind of its node.
-ghost use Rattle.std.specs.Prelude.{◌≡◌, true, not, length};
+#![tactic(auto, using(crate::proofs::Viewed::root_seen, crate::proofs::Viewed::element_seen, crate::proofs::Viewed::container_seen, crate::proofs::Viewed::an_element_seen, crate::proofs::Viewed::child_seen, crate::proofs::Viewed::text_seen))]
+
+ghost use Rattle.std.specs.Prelude.{◌≡◌, not, MatchResult};
 ghost use Rattle.records.specs.Handles.{word_of};
-ghost use Rattle.model.specs.Kinds.{is_container, is_element, is_root, child_kind, text_of};
-ghost use Rattle.model.specs.Doc.{is_none, any_option, view_at};
+ghost use Rattle.model.specs.Kinds.{is_container, is_element, is_root, child_kind, text_of, map_kind};
+ghost use Rattle.model.specs.Doc.{is_none, any_option, pair_at, bytes_at, view_at};
 ghost use Rattle.model.specs.Arguments.{refuse_if};
 ghost use Rattle.model.specs.Checks.{container, an_element, a_child, a_text};
-ghost use Rattle.layout.specs.Layout.{memory_ok};
-ghost use Rattle.memory.specs.Decode.{kind_of, decode};
+ghost use Rattle.memory.specs.Decode.{kind_of};
+ghost use Rattle.memory.specs.View.{decoded};
 ghost use Rattle.verdicts.specs.Verdicts.{verdict_number};
 
-use layout::Document;
-use memory::read::resolve;
+use memory::view::View;
 use model::Refusal;
 use records::{NodeData, NodeId};
 use verdicts::verdict::refuse_if;
@@ -57,66 +58,49 @@ fn text_kind(data: NodeData) -> Result<(), Refusal>
     }
 }
 
-pub fn is_root(d: Document, mem: &[u64], id: NodeId) -> bool
-    requires { memory_ok d (length mem.now) ≡ true }
-    ensures { result ≡ any_option is_root (view_at (decode d mem.now) (word_of id)) }
+// What the node of a handle is, for every handle: the checks see no more of it.
+pub fn data(view: &View<'_>, id: NodeId) -> Result<NodeData, Refusal>
+    ensures { MatchResult result (λ found. view_at (decoded view.now) (word_of id) ≡ Some (map_kind (pair_at (decoded view.now)) (bytes_at (decoded view.now)) (kind_of found))) (λ why. (view_at (decoded view.now) (word_of id) ≡ None) × (why ≡ Refusal.Stale)) }
 {
-    match resolve(d, mem, id) {
-        Some(node) => root_kind(node.data),
-        None => false,
-    }
+    view.resolve(id).map(|node| node.data).ok_or(Refusal::Stale)
 }
 
-pub fn is_element(d: Document, mem: &[u64], id: NodeId) -> bool
-    requires { memory_ok d (length mem.now) ≡ true }
-    ensures { result ≡ any_option is_element (view_at (decode d mem.now) (word_of id)) }
+pub fn is_root(view: &View<'_>, id: NodeId) -> bool
+    ensures { result ≡ any_option is_root (view_at (decoded view.now) (word_of id)) }
 {
-    match resolve(d, mem, id) {
-        Some(node) => element_kind(node.data),
-        None => false,
-    }
+    data(view, id).is_ok_and(root_kind)
+}
+
+pub fn is_element(view: &View<'_>, id: NodeId) -> bool
+    ensures { result ≡ any_option is_element (view_at (decoded view.now) (word_of id)) }
+{
+    data(view, id).is_ok_and(element_kind)
 }
 
 // 6 and 8.
-pub fn container(d: Document, mem: &[u64], id: NodeId) -> Result<(), Refusal>
-    requires { memory_ok d (length mem.now) ≡ true }
-    ensures { verdict_number result ≡ container (view_at (decode d mem.now) (word_of id)) }
+pub fn container(view: &View<'_>, id: NodeId) -> Result<(), Refusal>
+    ensures { verdict_number result ≡ container (view_at (decoded view.now) (word_of id)) }
 {
-    match resolve(d, mem, id) {
-        Some(node) => container_kind(node.data),
-        None => Err(Refusal::Stale),
-    }
+    container_kind(data(view, id)?)
 }
 
 // 6 and 7.
-pub fn an_element(d: Document, mem: &[u64], id: NodeId) -> Result<(), Refusal>
-    requires { memory_ok d (length mem.now) ≡ true }
-    ensures { verdict_number result ≡ an_element (view_at (decode d mem.now) (word_of id)) }
+pub fn an_element(view: &View<'_>, id: NodeId) -> Result<(), Refusal>
+    ensures { verdict_number result ≡ an_element (view_at (decoded view.now) (word_of id)) }
 {
-    match resolve(d, mem, id) {
-        Some(node) => refuse_if(!element_kind(node.data), Refusal::NotAnElement),
-        None => Err(Refusal::Stale),
-    }
+    refuse_if(!element_kind(data(view, id)?), Refusal::NotAnElement)
 }
 
 // 6, 9 and 11.
-pub fn a_child(d: Document, mem: &[u64], id: NodeId) -> Result<(), Refusal>
-    requires { memory_ok d (length mem.now) ≡ true }
-    ensures { verdict_number result ≡ a_child (view_at (decode d mem.now) (word_of id)) }
+pub fn a_child(view: &View<'_>, id: NodeId) -> Result<(), Refusal>
+    ensures { verdict_number result ≡ a_child (view_at (decoded view.now) (word_of id)) }
 {
-    match resolve(d, mem, id) {
-        Some(node) => child_kind(node.data),
-        None => Err(Refusal::Stale),
-    }
+    child_kind(data(view, id)?)
 }
 
 // 6 and 10.
-pub fn a_text(d: Document, mem: &[u64], id: NodeId) -> Result<(), Refusal>
-    requires { memory_ok d (length mem.now) ≡ true }
-    ensures { verdict_number result ≡ a_text (view_at (decode d mem.now) (word_of id)) }
+pub fn a_text(view: &View<'_>, id: NodeId) -> Result<(), Refusal>
+    ensures { verdict_number result ≡ a_text (view_at (decoded view.now) (word_of id)) }
 {
-    match resolve(d, mem, id) {
-        Some(node) => text_kind(node.data),
-        None => Err(Refusal::Stale),
-    }
+    text_kind(data(view, id)?)
 }

@@ -8,11 +8,11 @@ use native.Mathlib.Omega.{arith}
 use lib.ListN.{length, take, drop}
 use lib.Seq.{length-take-le}
 use Rattle.words.specs.Parts.{part, put}
-use Rattle.words.proofs.Parts.{lent, returned, length_part, put_back, part-put-same}
+use Rattle.words.proofs.Parts.{lent, returned, length_part, part-put-same}
 use Rattle.blocks.specs.Arena.{Block, list_of, arena_of}
 use Rattle.blocks.specs.Compact.{BlockCopied}
 use Rattle.blocks.specs.Held.{Held}
-use Rattle.slots.specs.Regions.{order_start}
+use Rattle.slots.specs.Regions.{slots_words, order_start}
 use Rattle.slots.specs.Slots.{taken, taken_words, CanTake}
 use Rattle.slots.specs.declared.slot.Taken.{Taken}
 use Rattle.texts.specs.declared.TextLimits.{TextLimits}
@@ -21,13 +21,14 @@ use Rattle.names.specs.declared.NameLimits.{NameLimits}
 use Rattle.names.specs.declared.NameCounts.{NameCounts}
 use Rattle.model.specs.Kinds.{Which}
 use Rattle.layout.specs.declared.Document.{Document}
-use Rattle.layout.specs.Layout.{limits_of, entries_of, arena_at, texts_at, names_at, memory_ok}
+use Rattle.layout.specs.Layout.{limits_of, entries_of, slots_at, arena_words, arena_at, texts_at, names_at, memory_ok}
+use Rattle.layout.proofs.Sizes.{sizes}
 use Rattle.memory.specs.Decode.{slots_part, slots_made, slots_free, arena_part, arena_used, arena_in, text_limits, text_counts, texts_part, name_limits, name_counts, names_part}
 use Rattle.memory.specs.Writing.{put_slots, put_arena, put_texts, put_names, ArenaCopied}
 use Rattle.memory.proofs.Reading.{slots_lent, entries-read}
-use Rattle.memory.proofs.Shaped.{length-slots_part, length-arena_part}
+use Rattle.memory.proofs.Shaped.{length-arena_part}
 use Rattle.memory.proofs.Arenas.{arena-lent}
-use Rattle.memory.proofs.Lent.{ends, texts-lent, names-lent}
+use Rattle.memory.proofs.PoolAndTable.{ends, texts-lent, names-lent}
 
 -- what was cut from start on, and the buffer once it came back
 module _ (mem : List ℕ) (start stop at n : ℕ) (e : start ≡ at) (es : stop ≡ start + n) (room : at + n ≤ length mem) (ys : List ℕ) (long : length ys ≡ length (take (stop - start) (drop start mem))) where
@@ -49,33 +50,34 @@ module _ (mem : List ℕ) (start stop at n : ℕ) (e : start ≡ at) (es : stop 
 module _ (d : Document) (mem : List ℕ) where
   -- ---- the slots
 
-  pub slots-asked : (P : List ℕ → Type 0) → P (slots_part d mem) → P (take (15 * d.limits.nodes - 0) (drop 0 mem))
-  slots-asked P h = subst P (sym (slots_lent d mem)) h
+  module _ (start stop : ℕ) (e : start ≡ slots_at) (es : stop ≡ start + slots_words d.limits.nodes) where
+    abbrev slots-cut : List ℕ
+    slots-cut = take (stop - start) (drop start mem)
 
-  -- f is what the lower layer made of them
-  pub slots-told : memory_ok d (length mem) ≡ true → (f : List ℕ → List ℕ) (ys : List ℕ) → length ys ≡ length (take (15 * d.limits.nodes - 0) (drop 0 mem))
-      → ys ≡ f (take (15 * d.limits.nodes - 0) (drop 0 mem)) → ys ++ drop (15 * d.limits.nodes - 0) (drop 0 mem) ≡ put_slots (f (slots_part d mem)) mem
-  unfolding put_slots
-  slots-told ok f ys k e =
-      let n = d.limits.nodes in
-      let size : length ys ≡ 15 * n - 0 = k ∙ ap length (slots_lent d mem) ∙ omega (arith, length-slots_part d mem ok) in
-      put_back mem 0 ys (15 * n - 0) size ∙ ap (λ (x : List ℕ). put 0 x mem) (e ∙ ap f (slots_lent d mem))
+    pub slots-asked : (P : List ℕ → Type 0) → P (slots_part d mem) → P slots-cut
+    slots-asked P h = subst P (sym (slots_lent d mem start stop e es)) h
 
-  pub take-asked : (made free : ℕ) → made ≡ slots_made d → free ≡ slots_free d → CanTake d.limits.nodes (slots_part d mem) (slots_made d) (slots_free d)
-      → CanTake d.limits.nodes (take (15 * d.limits.nodes - 0) (drop 0 mem)) made free
-  take-asked made free em ef h = slots-asked (λ w. CanTake d.limits.nodes w made free) (rw (em, ef) h)
+    -- f is what the lower layer made of them
+    pub slots-told : memory_ok d (length mem) ≡ true → (f : List ℕ → List ℕ) (ys : List ℕ) → length ys ≡ length slots-cut → ys ≡ f slots-cut
+        → take start mem ++ (ys ++ drop (stop - start) (drop start mem)) ≡ put_slots (f (slots_part d mem)) mem
+    unfolding put_slots
+    slots-told ok f ys k q =
+        left-put mem start stop slots_at (slots_words d.limits.nodes) e es (omega (arith, (sizes d (length mem) ok).slots)) ys k
+        ∙ ap (λ (x : List ℕ). put slots_at x mem) (q ∙ ap f (slots_lent d mem start stop e es))
 
-  pub take-told : memory_ok d (length mem) ≡ true → (made free : ℕ) → made ≡ slots_made d → free ≡ slots_free d → (t : Taken) (ys : List ℕ)
-      → length ys ≡ length (take (15 * d.limits.nodes - 0) (drop 0 mem))
-      → (t ≡ taken d.limits.nodes (take (15 * d.limits.nodes - 0) (drop 0 mem)) made free)
-      × (ys ≡ taken_words d.limits.nodes (take (15 * d.limits.nodes - 0) (drop 0 mem)) made free)
-      → (t ≡ taken d.limits.nodes (slots_part d mem) (slots_made d) (slots_free d))
-      × (ys ++ drop (15 * d.limits.nodes - 0) (drop 0 mem) ≡ put_slots (taken_words d.limits.nodes (slots_part d mem) (slots_made d) (slots_free d)) mem)
-  take-told ok made free em ef t ys k h =
-      let n = d.limits.nodes in (
-        h.0 ∙ ap (λ (w : List ℕ). taken n w made free) (slots_lent d mem) ∙ rw (em, ef),
-        slots-told ok (λ w. taken_words n w made free) ys k h.1 ∙ rw (em, ef),
-      )
+    pub take-asked : (made free : ℕ) → made ≡ slots_made d → free ≡ slots_free d → CanTake d.limits.nodes (slots_part d mem) (slots_made d) (slots_free d)
+        → CanTake d.limits.nodes slots-cut made free
+    take-asked made free em ef h = slots-asked (λ w. CanTake d.limits.nodes w made free) (rw (em, ef) h)
+
+    pub take-told : memory_ok d (length mem) ≡ true → (made free : ℕ) → made ≡ slots_made d → free ≡ slots_free d → (t : Taken) (ys : List ℕ) → length ys ≡ length slots-cut
+        → (t ≡ taken d.limits.nodes slots-cut made free) × (ys ≡ taken_words d.limits.nodes slots-cut made free)
+        → (t ≡ taken d.limits.nodes (slots_part d mem) (slots_made d) (slots_free d))
+        × (take start mem ++ (ys ++ drop (stop - start) (drop start mem)) ≡ put_slots (taken_words d.limits.nodes (slots_part d mem) (slots_made d) (slots_free d)) mem)
+    take-told ok made free em ef t ys k h =
+        let n = d.limits.nodes in (
+          h.0 ∙ ap (λ (w : List ℕ). taken n w made free) (slots_lent d mem start stop e es) ∙ rw (em, ef),
+          slots-told ok (λ w. taken_words n w made free) ys k h.1 ∙ rw (em, ef),
+        )
 
   pub orders-cut : (made : ℕ) → made ≡ slots_made d
       → take (d.limits.nodes * 14 + made - d.limits.nodes * 14) (drop (d.limits.nodes * 14) mem) ≡ part (order_start d.limits.nodes) (slots_made d) mem
@@ -96,32 +98,27 @@ module _ (d : Document) (mem : List ℕ) where
     pub held-shown : (s n : ℕ) → Held (arena_part d w mem) (entries_of d.limits w) (arena_used d w) s n → Held words limit used s n
     held-shown s n h = rw (ew, el, eu) h
 
-  module _ (ok : memory_ok d (length mem) ≡ true) (w : Which) (limit start : ℕ) (el : limit ≡ entries_of d.limits w) (es : start ≡ arena_at (limits_of d.limits) w)
-      (ys : List ℕ) (k : length ys ≡ length (take (start + (limit + limit) - start) (drop start mem))) where
-    arena-long : length ys ≡ entries_of d.limits w + entries_of d.limits w
-    arena-long = k ∙ ap length (arena-lent d w mem limit start el es) ∙ length-arena_part d mem ok w
-
-    arena-back : take start mem ++ (ys ++ drop (start + (limit + limit) - start) (drop start mem)) ≡ put_arena d w ys mem
+  module _ (ok : memory_ok d (length mem) ≡ true) (w : Which) (start stop : ℕ) (e : start ≡ arena_at (limits_of d.limits) w) (es : stop ≡ start + arena_words (limits_of d.limits) w)
+      (ys : List ℕ) (k : length ys ≡ length (take (stop - start) (drop start mem))) where
+    arena-back : take start mem ++ (ys ++ drop (stop - start) (drop start mem)) ≡ put_arena d w ys mem
     unfolding put_arena
-    arena-back =
-        let E = entries_of d.limits w in
-        rw (el, es) (returned mem ys (arena_at (limits_of d.limits) w) (E + E) arena-long)
+    arena-back = left-put mem start stop (arena_at (limits_of d.limits) w) (arena_words (limits_of d.limits) w) e es (omega (arith, (sizes d (length mem) ok).arena w)) ys k
 
     -- f is what the lower layer made of the arena
-    pub arena-told : (f : ℕ → List ℕ → List ℕ) → ys ≡ f limit (take (start + (limit + limit) - start) (drop start mem))
-        → take start mem ++ (ys ++ drop (start + (limit + limit) - start) (drop start mem)) ≡ put_arena d w (f (entries_of d.limits w) (arena_part d w mem)) mem
-    arena-told f e =
+    pub arena-told : (limit : ℕ) → limit ≡ entries_of d.limits w → (f : ℕ → List ℕ → List ℕ) → ys ≡ f limit (take (stop - start) (drop start mem))
+        → take start mem ++ (ys ++ drop (stop - start) (drop start mem)) ≡ put_arena d w (f (entries_of d.limits w) (arena_part d w mem)) mem
+    arena-told limit el f q =
         arena-back
-        ∙ ap (λ (x : List ℕ). put_arena d w x mem) (e ∙ ap (f limit) (arena-lent d w mem limit start el es) ∙ ap (λ (n : ℕ). f n (arena_part d w mem)) el)
+        ∙ ap (λ (x : List ℕ). put_arena d w x mem) (q ∙ ap (f limit) (arena-lent d w mem start stop e es) ∙ ap (λ (n : ℕ). f n (arena_part d w mem)) el)
 
-    pub arena-copied : (used s n : ℕ) → BlockCopied (take (start + (limit + limit) - start) (drop start mem)) ys limit used s n
-        → ArenaCopied d mem (take start mem ++ (ys ++ drop (start + (limit + limit) - start) (drop start mem))) w used s n
-    arena-copied used s n b =
+    pub arena-copied : (limit : ℕ) → limit ≡ entries_of d.limits w → (used s n : ℕ) → BlockCopied (take (stop - start) (drop start mem)) ys limit used s n
+        → ArenaCopied d mem (take start mem ++ (ys ++ drop (stop - start) (drop start mem))) w used s n
+    arena-copied limit el used s n b =
         record {
           words = ys;
-          long = arena-long;
+          long = k ∙ ap length (arena-lent d w mem start stop e es) ∙ length-arena_part d mem ok w;
           memory = arena-back;
-          block = rw (el) at (rw (arena-lent d w mem limit start el es) at b);
+          block = rw (el) at (rw (arena-lent d w mem start stop e es) at b);
         }
 
   -- ---- the texts

@@ -14,6 +14,6 @@ pub mod Linked
 pub mod Kept
 pub mod Promises
 pub mod Shown
-pub mod Lent
+pub mod PoolAndTable
 pub mod Past
 pub mod Cuts

@@ -9,9 +9,9 @@ use lib.ListN.{get_or, take, drop}
 use lib.Seq.{get_or-take}
 use borrow.Author.Tests.{lt-ltb, le-ltb}
 use Rattle.words.specs.Parts.{part}
-use Rattle.words.proofs.Parts.{get_or-part, take_part, part-part}
+use Rattle.words.proofs.Parts.{lent, get_or-part, take_part, part-part}
 use Rattle.records.specs.Records.{node_of}
-use Rattle.slots.specs.Regions.{generation_at, record_at, node_at}
+use Rattle.slots.specs.Regions.{slots_words, generation_at, record_at, node_at}
 use Rattle.records.specs.declared.NodeRecord.{NodeRecord}
 use Rattle.records.specs.declared.Node.{Node}
 use Rattle.records.specs.declared.Range.{Range}
@@ -19,16 +19,14 @@ use Rattle.model.specs.Kinds.{Which, attributes, namespaces}
 use Rattle.layout.specs.declared.Document.{Document}
 use Rattle.layout.specs.declared.Arena.{Arena}
 use Rattle.layout.specs.declared.Arena.TheVariants.{Children, Attributes, Namespaces}
-use Rattle.layout.specs.Layout.{which_of, limits_of, entries_of, arena_at}
+use Rattle.layout.specs.Layout.{which_of, limits_of, entries_of, slots_at, arena_at}
 use Rattle.memory.specs.Decode.{block_of, element_range, range_of, slots_part, arena_part, arena_used, arena_in, loaded_at}
 use Rattle.layout.specs.Record.{used_of}
 
 -- the part of the slots, as it is lent
-pub slots_lent : (d : Document) (mem : List ℕ) → take (15 * d.limits.nodes - 0) (drop 0 mem) ≡ slots_part d mem
-unfolding part
-slots_lent d mem =
-    let e : 15 * d.limits.nodes - 0 ≡ 15 * d.limits.nodes = omega arith in
-    rw e
+pub slots_lent : (d : Document) (mem : List ℕ) (start stop : ℕ) → start ≡ slots_at → stop ≡ start + slots_words d.limits.nodes
+    → take (stop - start) (drop start mem) ≡ slots_part d mem
+slots_lent d mem start stop e es = rw es (lent mem start (slots_words d.limits.nodes)) ∙ ap (λ (a : ℕ). part a (slots_words d.limits.nodes) mem) e
 
 module _ (n : ℕ) (w : List ℕ) (s g : ℕ) (e : g ≡ generation_at n w s) where
   pub load-node : g < 4294967296 → (r : NodeRecord) (m : Option Node) → r ≡ record_at n w s → m ≡ node_of r → m ≡ loaded_at n w s

@@ -7,3 +7,4 @@ pub mod Undamaged
 pub mod Step
 pub mod Performed
 pub mod View
+pub mod Lent

@@ -4,6 +4,7 @@
 
 pub mod block;
 pub mod fields;
+pub mod lent;
 pub mod parts;
 pub mod read;
 pub mod stored;

@@ -2,7 +2,9 @@
 #![tactic(auto)]
 
 ghost use Rattle.std.specs.Prelude.{◌≡◌};
-ghost use Rattle.model.specs.Refusals.{number_of};
+ghost use Rattle.model.specs.Refusals.{number_of, refusal_of};
+
+use chars::Fault;
 
 // The refusals of document 01, in its order: those from the input, then those from the state.
 #[derive(Clone, Copy, Debug, PartialEq, Eq)]
@@ -30,5 +32,18 @@ impl From<Refusal> for u8 {
 
     fn from(refusal: Refusal) -> u8 {
         refusal as u8
+    }
+}
+
+// The refusal of bytes that a check refuses.
+impl From<Fault> for Refusal {
+    ghost from_gives = { λ fault refusal. refusal ≡ refusal_of fault };
+
+    fn from(fault: Fault) -> Refusal {
+        match fault {
+            Fault::NotUtf8 => Refusal::NotUtf8,
+            Fault::InvalidName => Refusal::InvalidName,
+            Fault::InvalidText => Refusal::InvalidText,
+        }
     }
 }

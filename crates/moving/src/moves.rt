@@ -7,6 +7,7 @@ ghost use Rattle.editing.specs.Answers.{of_done, after_done};
 use editing::admission::admit;
 use edits::moves::{move_last, move_to};
 use layout::Document;
+use memory::lent::Lent;
 use model::Refusal;
 use plans::moves::plan_move;
 use records::NodeId;
@@ -21,9 +22,14 @@ pub fn reparent(
 ) -> Result<Document, Refusal>
     ensures { Edits (reparent (word_of child) (word_of parent)) d mem.old scratch.old (of_done result) (after_done d result) mem.new scratch.new }
 {
-    admit(d, &mem[..], scratch)?;
-    plan_move(d, &mem[..], parent, child)?;
-    Ok(move_last(d, mem, parent, child))
+    let doc = admit(d, mem, scratch)?;
+    plan_move(&doc, parent, child)?;
+    let mut lent = Lent {
+        document: d,
+        words: mem,
+    };
+    move_last(&mut lent, parent, child);
+    Ok(lent.document)
 }
 
 // Rules out an index that is counted before the child was taken off its old place, and a second element under the Root.
@@ -37,7 +43,12 @@ pub fn insert_at(
 ) -> Result<Document, Refusal>
     ensures { Edits (insert-at (word_of parent) at (word_of child)) d mem.old scratch.old (of_done result) (after_done d result) mem.new scratch.new }
 {
-    admit(d, &mem[..], scratch)?;
-    plan_move(d, &mem[..], parent, child)?;
-    Ok(move_to(d, mem, parent, at, child))
+    let doc = admit(d, mem, scratch)?;
+    plan_move(&doc, parent, child)?;
+    let mut lent = Lent {
+        document: d,
+        words: mem,
+    };
+    move_to(&mut lent, parent, at, child);
+    Ok(lent.document)
 }

@@ -2,10 +2,11 @@
 ghost use Rattle.std.specs.Prelude.{◌≡◌, SomeIff, true, ◌&&◌, ◌+◌, ◌-◌, ◌≤◌, ◌<◌, length};
 ghost use Rattle.words.specs.Parts.{part};
 ghost use Rattle.words.specs.Pieces.{same_bytes};
-ghost use Rattle.names.specs.Table.{name, number_of, name_fits};
+ghost use Rattle.names.specs.Table.{number_of, name_fits};
+ghost use Rattle.names.specs.Expanded.{expanded};
 ghost use Rattle.names.specs.Words.{table_of, TableHeld, one_more, appended, InternedTo};
 
-use crate::{NameCounts, NameLimits, NameTable};
+use crate::{ExpandedName, NameCounts, NameLimits, NameTable};
 use words::NameId;
 use words::pieces::same_bytes;
 
@@ -17,25 +18,18 @@ pub struct Interned {
 }
 
 // Whether the words from index at to middle are the namespace, and those to end the local part.
-fn same_name(
-    words: &[u64],
-    at: usize,
-    middle: usize,
-    end: usize,
-    namespace: &[u8],
-    local: &[u8],
-) -> bool
+fn same_name(words: &[u64], at: usize, middle: usize, end: usize, name: ExpandedName<'_>) -> bool
     requires { (at ≤ middle) × (middle ≤ end) × (end ≤ length words.now) }
-    ensures { result ≡ (same_bytes namespace.now (part at (middle - at) words.now) && same_bytes local.now (part middle (end - middle) words.now)) }
+    ensures { result ≡ (same_bytes name.entry.namespace.now (part at (middle - at) words.now) && same_bytes name.entry.local.now (part middle (end - middle) words.now)) }
 {
-    same_bytes(&words[at..middle], namespace) && same_bytes(&words[middle..end], local)
+    same_bytes(&words[at..middle], name.namespace) && same_bytes(&words[middle..end], name.local)
 }
 
 impl NameTable<'_> {
     // The number of the first equal pair, where there is one. Nothing here says that it has 32 bits, so it is no `NameId`.
-    pub fn find_name(self, namespace: &[u8], local: &[u8]) -> Option<usize>
+    pub fn find_name(self, name: ExpandedName<'_>) -> Option<usize>
         requires { TableHeld self.limits self.counts self.words.now }
-        ensures { SomeIff result (number_of (table_of self.entry.limits self.entry.counts self.entry.words.now) (name namespace.now local.now) < self.entry.counts.names) (number_of (table_of self.entry.limits self.entry.counts self.entry.words.now) (name namespace.now local.now)) }
+        ensures { SomeIff result (number_of (table_of self.entry.limits self.entry.counts self.entry.words.now) (expanded name.entry) < self.entry.counts.names) (number_of (table_of self.entry.limits self.entry.counts self.entry.words.now) (expanded name.entry)) }
     {
         let words = self.words;
         let n = self.counts.names;
@@ -44,7 +38,7 @@ impl NameTable<'_> {
         for k in 0..n {
             let middle = base + words[k + k] as usize;
             let end = base + words[k + k + 1] as usize;
-            if same_name(words, at, middle, end, namespace, local) {
+            if same_name(words, at, middle, end, name) {
                 return Some(k);
             }
             at = end;
@@ -53,15 +47,15 @@ impl NameTable<'_> {
     }
 
     // Whether the table has the name, or room for it.
-    pub fn name_fits(self, namespace: &[u8], local: &[u8]) -> bool
+    pub fn name_fits(self, name: ExpandedName<'_>) -> bool
         requires { TableHeld self.limits self.counts self.words.now }
-        ensures { result ≡ name_fits self.entry.limits.names self.entry.limits.bytes (table_of self.entry.limits self.entry.counts self.entry.words.now) (name namespace.now local.now) }
+        ensures { result ≡ name_fits self.entry.limits.names self.entry.limits.bytes (table_of self.entry.limits self.entry.counts self.entry.words.now) (expanded name.entry) }
     {
-        if self.find_name(namespace, local).is_some() {
+        if self.find_name(name).is_some() {
             return true;
         }
         self.counts.names < self.limits.names
-            && namespace.len() + local.len() <= self.limits.bytes - self.counts.bytes
+            && name.namespace.len() + name.local.len() <= self.limits.bytes - self.counts.bytes
     }
 }
 
@@ -71,22 +65,21 @@ fn append_name(
     words: &mut [u64],
     limits: NameLimits,
     counts: NameCounts,
-    namespace: &[u8],
-    local: &[u8],
+    name: ExpandedName<'_>,
 ) -> NameCounts
-    requires { TableHeld limits counts words.old × (counts.names < limits.names) × (counts.bytes + (length namespace.now + length local.now) ≤ limits.bytes) }
-    ensures { (result ≡ one_more counts (name namespace.now local.now)) × (words.new ≡ appended limits counts words.old (name namespace.now local.now)) }
+    requires { TableHeld limits counts words.old × (counts.names < limits.names) × (counts.bytes + (length name.namespace.now + length name.local.now) ≤ limits.bytes) }
+    ensures { (result ≡ one_more counts (expanded name.entry)) × (words.new ≡ appended limits counts words.old (expanded name.entry)) }
 {
     let number = counts.names;
     let used = counts.bytes;
     let k = number + number;
-    let middle = used + namespace.len();
-    let bytes = middle + local.len();
+    let middle = used + name.namespace.len();
+    let bytes = middle + name.local.len();
     words[k] = middle as u64;
     words[k + 1] = bytes as u64;
     let at = limits.names + limits.names + used;
-    words::pieces::write_bytes(words, at, namespace);
-    words::pieces::write_bytes(words, at + namespace.len(), local);
+    words::pieces::write_bytes(words, at, name.namespace);
+    words::pieces::write_bytes(words, at + name.namespace.len(), name.local);
     let names = number + 1;
     NameCounts { names, bytes }
 }
@@ -96,24 +89,23 @@ pub fn intern(
     words: &mut [u64],
     limits: NameLimits,
     counts: NameCounts,
-    namespace: &[u8],
-    local: &[u8],
+    name: ExpandedName<'_>,
 ) -> Interned
-    requires { TableHeld limits counts words.old × (name_fits limits.names limits.bytes (table_of limits counts words.old) (name namespace.now local.now) ≡ true) × (limits.names < 4294967296) }
-    ensures { InternedTo limits counts words.old words.new (name namespace.now local.now) result }
+    requires { TableHeld limits counts words.old × (name_fits limits.names limits.bytes (table_of limits counts words.old) (expanded name) ≡ true) × (limits.names < 4294967296) }
+    ensures { InternedTo limits counts words.old words.new (expanded name.entry) result }
 {
     let table = NameTable {
         words: &words[..],
         limits,
         counts,
     };
-    if let Some(k) = table.find_name(namespace, local) {
+    if let Some(k) = table.find_name(name) {
         return Interned {
             number: NameId(k as u32),
             counts,
         };
     }
     let number = NameId(counts.names as u32);
-    let counts = append_name(words, limits, counts, namespace, local);
+    let counts = append_name(words, limits, counts, name);
     Interned { number, counts }
 }

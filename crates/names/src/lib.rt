@@ -23,6 +23,13 @@ pub struct NameCounts {
     pub bytes: usize,
 }
 
+// A name's two parts: the namespace's bytes, none without one, and the local part's.
+#[derive(Clone, Copy)]
+pub struct ExpandedName<'a> {
+    pub namespace: &'a [u8],
+    pub local: &'a [u8],
+}
+
 // The parts of a name, in the order of their bytes.
 #[derive(Clone, Copy)]
 pub enum NamePart {

@@ -19,6 +19,7 @@ use Rattle.edits.proofs.Composed.{step-as}
 use Rattle.walks.specs.Order.{put_orders}
 use Rattle.walks.proofs.Cleared.{renewed-step}
 use Rattle.memory.specs.Performed.{Performed}
+use Rattle.editing.specs.Contract.{Edits}
 
 abbrev shown_keys : List ℕ → Answered
 shown_keys l = keys l
@@ -51,3 +52,7 @@ module _ (d : Document) (mem : List ℕ) (ok : memory_ok d (length mem) ≡ true
           answer = ap shown_keys (order-shown r mem' ok') ∙ ap (λ (x : Doc). shown_keys (take (length x.gens) x.order)) (change.document ∙ h);
           change = step-as d mem r mem' (renew_order D) (cond d.current D (renew_order D)) change h;
         }
+
+-- the keys are those of the memory that was lent to the renewal
+pub renewing : (d r : Document) (mem s s' w mem' : List ℕ) → mem' ≡ w → Edits document-order d mem s (keys (order_shown r w)) r w s' → Edits document-order d mem s (keys (order_shown r mem')) r mem' s'
+renewing d r mem s s' w mem' e h = rw e h

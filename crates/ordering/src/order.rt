@@ -5,6 +5,7 @@ ghost use Rattle.editing.specs.Answers.{of_order, after_done};
 
 use editing::admission::admit;
 use layout::Document;
+use memory::lent::Lent;
 use model::Refusal;
 use walks::order::renew_order;
 
@@ -16,11 +17,15 @@ pub fn document_order(
 ) -> Result<Document, Refusal>
     ensures { Edits document-order d mem.old scratch.old (of_order mem.new result) (after_done d result) mem.new scratch.new }
 {
-    admit(d, &mem[..], scratch)?;
+    admit(d, mem, scratch)?;
     if d.current {
         return Ok(d);
     }
-    let document = renew_order(d, mem, scratch);
+    let mut lent = Lent {
+        document: d,
+        words: mem,
+    };
+    renew_order(&mut lent, scratch);
     scratch.fill(0);
-    Ok(document)
+    Ok(lent.document)
 }

@@ -25,7 +25,6 @@ use Rattle.records.specs.Handles.{word_of, handle_index}
 use Rattle.records.specs.declared.NodeId.{NodeId}
 use Rattle.records.specs.declared.NodeData.{NodeData}
 use Rattle.records.specs.declared.NodeData.TheVariants as given
-use Rattle.records.specs.declared.Node.{Node}
 use Rattle.records.proofs.Handles.{handle_index-word_of}
 use Rattle.names.specs.Table.{Name}
 use Rattle.model.specs.Kinds.{Kind, root, element, attribute, text, comment, namespace, instruction, Which, children, which_of, child_kind, text_of, map_kind}
@@ -33,15 +32,15 @@ use Rattle.model.specs.Doc.{Doc, resolves, live_slot, kind_at, parent_at, range_
 use Rattle.model.specs.Edits.{update_which, set_parent, unlink_from, unlink, unhook}
 use Rattle.model.specs.Rules.{Shape, Rules, block_in}
 use Rattle.model.specs.Arguments.{refuse_if, first, is_utf8, text_check, space_only}
-use Rattle.model.specs.Checks.{View, container, a_child, moved_text, stored_text, check_move}
+use Rattle.model.specs.Checks.{container, a_child, moved_text, check_move}
 use Rattle.model.specs.Calls.{room_fits}
 use Rattle.laws.proofs.Basics.{live-below}
 use Rattle.laws.proofs.Guards.{first-zero}
 use Rattle.layout.specs.declared.Document.{Document}
-use Rattle.memory.specs.Decode.{slot_of, kind_of, resolved_in, pool_in, names_in, lengths_add, decode}
+use Rattle.memory.specs.Decode.{slot_of, kind_of, pool_in, names_in, lengths_add, decode}
 use Rattle.memory.specs.Undamaged.{Undamaged}
 use Rattle.memory.proofs.Shaped.{shape}
-use Rattle.lookup.proofs.Viewed.{child-kind, view-found, view-stale}
+use Rattle.lookup.proofs.Viewed.{child_seen}
 use Rattle.plans.proofs.Appended.{live-accepted}
 
 -- ---- the text
@@ -94,17 +93,6 @@ module _ (D : Doc) (u : Bool) (v : NodeData) where
   pub own-text : (c : Option TextSlot) → v ≡ given.Text c → (t : List ℕ) → t ≡ bytes_at D (slot_of c) → (n : ℕ) → n ≡ moved_text u (Some t) → n ≡ moved_text u (text_of (map_kind (pair_at D) (bytes_at D) (kind_of v)))
   own-text c e t q n k = k ∙ ap (λ (x : List ℕ). moved_text u (Some x)) q ∙ sym (ap of_data e)
 
-module _ (d : Document) (mem : List ℕ) (h : NodeId) (hi : h.index < 4294967296) (hg : h.generation < 4294967296) (t : Bool) where
-  pub moved-found : (m : Node) → resolved_in d mem h ≡ Some m → (u : Bool) → u ≡ t → (n : ℕ) → n ≡ moved_text u (text_of (map_kind (pair_at (decode d mem)) (bytes_at (decode d mem)) (kind_of m.«data»)))
-      → n ≡ moved_text t (stored_text (view_at (decode d mem) (word_of h)))
-  moved-found m e u q n k =
-      k
-      ∙ ap (λ (x : Bool). moved_text x (text_of (map_kind (pair_at (decode d mem)) (bytes_at (decode d mem)) (kind_of m.«data»)))) q
-      ∙ sym (ap (λ (w : View). moved_text t (stored_text w)) (view-found d mem h hi hg m e))
-
-  pub moved-stale : resolved_in d mem h ≡ None → 0 ≡ moved_text t (stored_text (view_at (decode d mem) (word_of h)))
-  moved-stale e = sym (ap (λ (w : View). moved_text t (stored_text w)) (view-stale d mem h hi hg e))
-
 -- ---- the checks were passed
 
 module _ (D : Doc) (c p : ℕ) where
@@ -112,7 +100,7 @@ module _ (D : Doc) (c p : ℕ) where
   move_accepted cycle taken z =
       let child = first-zero (a_child (view_at D c)) _ z in
       let live : resolves D c ≡ true = live-accepted D c a_child refl child.0 in
-      let w : a_child (view_at D c) ≡ child_kind (kind_at D c) = ap (λ (b : Bool). a_child (cond b (Some (node_at D c)) None)) live ∙ child-kind (pair_at D) (bytes_at D) (kind_at D c) in
+      let w : a_child (view_at D c) ≡ child_kind (kind_at D c) = ap (λ (b : Bool). a_child (cond b (Some (node_at D c)) None)) live ∙ child_seen (pair_at D) (bytes_at D) (kind_at D c) in
       (live-accepted D p container refl (first-zero (container (view_at D p)) _ child.1).0, live, sym w ∙ child.0)
 
 -- ---- Full

@@ -15,9 +15,8 @@ use Rattle.model.specs.Kinds.{attributes, namespaces}
 use Rattle.model.specs.Doc.{Doc, resolves, view_at}
 use Rattle.model.specs.Rules.{Rules}
 use Rattle.model.specs.Arguments.{first, not_utf8}
-use Rattle.model.specs.Checks.{an_element, check_remove_attribute, declaration_check, check_declare_namespace}
+use Rattle.model.specs.Checks.{an_element, declaration_check, check_declare_namespace}
 use Rattle.model.specs.Calls.{full_unless, node_fits, text_fits, name_fits_in, two_fit, replacement_fits, replaceable_at, find_attribute, find_namespace, set_attribute_found, declare_namespace_found}
-use Rattle.laws.proofs.Guards.{first-zero}
 use Rattle.verdicts.specs.Verdicts.{refusal_number}
 use Rattle.plans.proofs.Appended.{live-accepted, live-behind}
 use Rattle.lookup.proofs.Found.{found-attribute, found-namespace}
@@ -62,6 +61,3 @@ module _ (D : Doc) (e : ℕ) where
 
   pub declare_live : (prefix uri : List ℕ) → check_declare_namespace prefix uri (view_at D e) ≡ 0 → resolves D e ≡ true
   declare_live prefix uri z = live-behind D e an_element refl (not_utf8 (prefix ∷ uri ∷ [])) (declaration_check prefix uri) z
-
-  pub remove_live : (ns local : List ℕ) → check_remove_attribute ns local (view_at D e) ≡ 0 → resolves D e ≡ true
-  remove_live ns local z = live-accepted D e an_element refl (first-zero (not_utf8 (ns ∷ local ∷ [])) (an_element (view_at D e)) z).1

@@ -2,7 +2,7 @@
 -- Assumes nothing.
 use Rattle.std.specs.Prelude.{Option, None, Some}
 use mathlib.Core.Path.{◌≡◌, refl, sym, ap, ◌∙◌}
-use mathlib.Core.Bool.{Bool, true, false, cond, false≢true}
+use mathlib.Core.Bool.{Bool, true, cond, false≢true}
 use mathlib.Core.List.{List, [], ◌∷◌}
 use Prim.Native.Nat.{ℕ, ◌≤◌, ◌<◌}
 use native.Mathlib.Omega.{arith}
@@ -15,8 +15,8 @@ use Rattle.records.specs.Handles.{word_of, handle_index}
 use Rattle.records.specs.declared.NodeId.{NodeId}
 use Rattle.words.specs.declared.TextSlot.{TextSlot}
 use Rattle.records.specs.declared.Node.{Node}
-use Rattle.texts.specs.Pool.{Pool, slots_for, text_at}
-use Rattle.texts.specs.Words.{pool_of, place_shown, counts_fit}
+use Rattle.texts.specs.Pool.{Pool, text_at}
+use Rattle.texts.specs.Words.{pool_of, place_shown}
 use Rattle.texts.specs.declared.TextLimits.{TextLimits}
 use Rattle.texts.specs.declared.TextCounts.{TextCounts}
 use Rattle.texts.proofs.Places.{shown-nowhere}
@@ -27,24 +27,21 @@ use Rattle.model.specs.Doc.{Doc, resolves, live_slot, kind_at, node_at, parent_a
 use Rattle.model.specs.Rules.{Rules}
 use Rattle.model.specs.Arguments.{not_utf8}
 use Rattle.model.specs.Checks.{a_text, text_under, check_set_text}
-use Rattle.model.specs.Calls.{full_unless, under_root, text_fits, replacement_fits, replaceable_at}
+use Rattle.model.specs.Calls.{full_unless, under_root, replacement_fits, replaceable_at}
 use Rattle.layout.specs.declared.Document.{Document}
 use Rattle.memory.specs.Decode.{slot_of, kind_of, handle_of, text_limits, text_counts, texts_part, resolved_in, decode}
 use Rattle.memory.specs.Undamaged.{Undamaged}
 use Rattle.plans.proofs.Appended.{live-accepted, live-behind}
-use Rattle.lookup.proofs.Viewed.{root-kind, kind_at-found, resolves-stale}
-use Rattle.room.proofs.Texts.{counted, pool-same, text-fits}
+use Rattle.lookup.proofs.Viewed.{root_seen, kind_at-found, resolves-stale}
+use Rattle.room.proofs.Texts.{counted, pool-same}
 
 -- ---- the parent
 
 root-view : (D : Doc) (h : ℕ) → resolves D h ≡ true → any_option is_root (view_at D h) ≡ is_root (kind_at D h)
 root-view D h e =
-    ap (λ (t : Bool). any_option is_root (cond t (Some (node_at D h)) None)) e ∙ root-kind (pair_at D) (doc.bytes_at D) (kind_at D h)
+    ap (λ (t : Bool). any_option is_root (cond t (Some (node_at D h)) None)) e ∙ root_seen (pair_at D) (doc.bytes_at D) (kind_at D h)
 
 module _ (D : Doc) (h : ℕ) (w : ℕ) (ew : w ≡ h) (r : Option NodeId) (e : handle_of r ≡ parent_at D w) where
-  pub no-parent : r ≡ None → false ≡ under_root D h
-  no-parent q = sym (ap (any_option (λ p. is_root (kind_at D p))) (ap (parent_at D) (sym ew) ∙ sym e ∙ ap handle_of q))
-
   pub parent-root : Rules D → resolves D h ≡ true → (p : NodeId) → r ≡ Some p → (t : Bool) → t ≡ any_option is_root (view_at D (word_of p)) → t ≡ under_root D h
   parent-root rules live p q t k =
       let up : parent_at D h ≡ Some (word_of p) = ap (parent_at D) (sym ew) ∙ sym e ∙ ap handle_of q in
@@ -89,17 +86,7 @@ module _ (d : Document) (mem : List ℕ) (u : Undamaged d mem) where
       → (p.len ≡ length (doc.bytes_at (decode d mem) (Some s))) × (p.len ≤ d.counts.textbytes)
   place-told l k w el ek ew s p q = old-length s p (q ∙ rw (el, ek, ew))
 
-  -- ---- Full
-
-  module _ (f : Option TextSlot) (t : List ℕ) (r : Bool) where
-    pub replaced-none : f ≡ None → r ≡ text_fits (decode d mem) (slots_for t) 0 (length t) → r ≡ replacement_fits (decode d mem) (slot_of f) t
-    replaced-none q k = k ∙ sym (ap (λ (x : Option TextSlot). replacement_fits (decode d mem) (slot_of x) t) q)
-
-    pub replaced-some : (s : TextSlot) → f ≡ Some s → (off : ℕ) → off ≡ length (doc.bytes_at (decode d mem) (Some s.0)) → r ≡ counts_fit (text_limits d) (text_counts d) 0 off (length t)
-        → r ≡ replacement_fits (decode d mem) (slot_of f) t
-    replaced-some s q off e k =
-        k ∙ text-fits d mem u 0 off (length t) ∙ ap (λ (n : ℕ). text_fits (decode d mem) 0 n (length t)) e
-        ∙ sym (ap (λ (x : Option TextSlot). replacement_fits (decode d mem) (slot_of x) t) q)
+-- ---- Full
 
 module _ (d : Document) (mem : List ℕ) (h : NodeId) (hi : h.index < 4294967296) (hg : h.generation < 4294967296) (s : List ℕ) (v : ℕ) where
   pub replacing-found : (m : Node) → resolved_in d mem h ≡ Some m → (f : Option TextSlot) → slot_of f ≡ or_else None (replaceable (kind_of m.«data»)) → (t : Bool) → t ≡ replacement_fits (decode d mem) (slot_of f) s

@@ -1,7 +1,6 @@
 // What waits to be written, and how handles and bytes are written.
 ghost use Rattle.std.specs.Prelude.{◌≤◌, length};
 
-use records::handle::id_of;
 use records::{NodeId, Range};
 use std::fmt;
 
@@ -49,7 +48,7 @@ pub struct Handle(pub NodeId);
 impl Handle {
     // The handle that a word of a list holds.
     pub fn of(word: u64) -> Handle {
-        Handle(id_of(word))
+        Handle(NodeId::from(word))
     }
 }
 

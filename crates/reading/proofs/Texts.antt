@@ -21,7 +21,7 @@ use Rattle.layout.specs.declared.Document.{Document}
 use Rattle.memory.specs.Decode.{kind_of, element_range, name_limits, name_counts, names_part, resolved_in, pool_in, names_in, lengths_add, decode}
 use Rattle.memory.proofs.Columns.{resolved-none}
 use Rattle.memory.proofs.Shown.{name-shown}
-use Rattle.memory.proofs.Lent.{texts-shown}
+use Rattle.memory.proofs.PoolAndTable.{texts-shown}
 use Rattle.reading.specs.Answers.{text_in, of_name}
 use Rattle.showing.proofs.Found.{shown}
 

@@ -16,7 +16,6 @@ use crate::order::ROOT;
 use layout::{Arena, Document};
 use memory::view::View;
 use model::Refusal;
-use records::handle::id_of;
 use records::{NodeId, Range};
 use showing::shown::{shown_block, shown_parent, shows_element};
 
@@ -42,7 +41,7 @@ fn first_element(view: &View<'_>, block: Range) -> Option<NodeId>
     ensures { of_node (Ok result) ≡ node (find (shows_element (decoded view.now)) (list_of (arena_in view.now.document children view.now.words.now) (block_of block))) }
 {
     for word in view.block_words(Arena::Children, block) {
-        let id = id_of(*word);
+        let id = NodeId::from(*word);
         if shows_element(view, id) {
             return Some(id);
         }

@@ -105,6 +105,7 @@ pub fn parent_of(word: u64, generation: u64) -> Option<NodeId>
     }
 }
 
+// Stays: From has no requires, and a span of two words need not be a range.
 pub fn range_of(span: Span) -> Range
     requires { (span.start < 4294967296) × (span.len < 4294967296) }
     ensures { result ≡ range_of span }

@@ -33,12 +33,15 @@ pub fn parent_generation(parent: Option<NodeId>) -> u64
     }
 }
 
-pub fn span_of(range: Range) -> Span
-    ensures { result ≡ span_of range }
-{
-    Span {
-        start: range.start as u64,
-        len: range.len as u64,
+// A range's two words.
+impl From<Range> for Span {
+    ghost from_gives = { λ range span. span ≡ span_of range };
+
+    fn from(range: Range) -> Span {
+        Span {
+            start: range.start as u64,
+            len: range.len as u64,
+        }
     }
 }
 
@@ -99,7 +102,7 @@ pub fn attributes_span(data: NodeData) -> Span
     ensures { result ≡ attributes_span «data» }
 {
     match data {
-        NodeData::Element { attributes, .. } => span_of(attributes),
+        NodeData::Element { attributes, .. } => Span::from(attributes),
         _ => no_span(),
     }
 }
@@ -108,7 +111,7 @@ pub fn namespaces_span(data: NodeData) -> Span
     ensures { result ≡ namespaces_span «data» }
 {
     match data {
-        NodeData::Element { namespaces, .. } => span_of(namespaces),
+        NodeData::Element { namespaces, .. } => Span::from(namespaces),
         _ => no_span(),
     }
 }
@@ -126,7 +129,7 @@ pub fn record_of(node: Node) -> NodeRecord
         second: chars_word(second_text(data)),
         parent: parent_word(node.parent),
         generation: parent_generation(node.parent),
-        children: span_of(node.children),
+        children: Span::from(node.children),
         attributes: attributes_span(data),
         namespaces: namespaces_span(data),
     }

@@ -7,7 +7,9 @@ ghost use Rattle.editing.specs.Answers.{of_found, after_found};
 use crate::remove::remove_node;
 use editing::admission::admit;
 use layout::Document;
+use memory::lent::Lent;
 use model::Refusal;
+use names::ExpandedName;
 use plans::listing::plan_remove_attribute;
 use records::NodeId;
 
@@ -22,10 +24,16 @@ pub fn remove_attribute(
 ) -> Result<(Document, bool), Refusal>
     ensures { Edits (remove-attribute (word_of element) namespace.now local.now) d mem.old scratch.old (of_found result) (after_found d result) mem.new scratch.new }
 {
-    admit(d, &mem[..], scratch)?;
-    let found = plan_remove_attribute(d, &mem[..], element, namespace, local)?;
-    match found {
-        Some(id) => Ok((remove_node(d, mem, scratch, id), true)),
-        None => Ok((d, false)),
-    }
+    let name = ExpandedName { namespace, local };
+    let doc = admit(d, mem, scratch)?;
+    let found = plan_remove_attribute(&doc, element, name)?;
+    let Some(id) = found else {
+        return Ok((d, false));
+    };
+    let mut lent = Lent {
+        document: d,
+        words: mem,
+    };
+    remove_node(&mut lent, scratch, id);
+    Ok((lent.document, true))
 }

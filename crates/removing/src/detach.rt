@@ -7,6 +7,7 @@ ghost use Rattle.editing.specs.Answers.{of_done, after_done};
 use editing::admission::admit;
 use edits::moves::detach_node;
 use layout::Document;
+use memory::lent::Lent;
 use model::Refusal;
 use plans::removals::plan_detach;
 use records::NodeId;
@@ -20,7 +21,12 @@ pub fn detach(
 ) -> Result<Document, Refusal>
     ensures { Edits (detach (word_of id)) d mem.old scratch.old (of_done result) (after_done d result) mem.new scratch.new }
 {
-    admit(d, &mem[..], scratch)?;
-    plan_detach(d, &mem[..], id)?;
-    Ok(detach_node(d, mem, id))
+    let doc = admit(d, mem, scratch)?;
+    plan_detach(&doc.view, id)?;
+    let mut lent = Lent {
+        document: d,
+        words: mem,
+    };
+    detach_node(&mut lent, id);
+    Ok(lent.document)
 }

@@ -1,7 +1,7 @@
 -- What Full asks, over plain values: slots, and the entries of a live node's block.
 -- Assumes nothing.
 use mathlib.Core.Path.{◌≡◌, refl, sym, ap, ◌∙◌}
-use mathlib.Core.Bool.{Bool, true, false, ◌&&◌, ◌||◌, and-true, false≢true}
+use mathlib.Core.Bool.{Bool, true, false, ◌&&◌, ◌||◌}
 use mathlib.Core.List.{List, [], ◌∷◌}
 use Prim.Native.Nat.{ℕ}
 use native.Mathlib.Omega.{arith}
@@ -14,7 +14,7 @@ use Rattle.slots.specs.Regions.{free_at}
 use Rattle.slots.specs.Slots.{has_slot}
 use Rattle.model.specs.Kinds.{Which}
 use Rattle.model.specs.Doc.{Doc, resolves}
-use Rattle.model.specs.Calls.{slot_fits_from, slot_fits, room_fits, node_fits}
+use Rattle.model.specs.Calls.{slot_fits_from, slot_fits, node_fits}
 use Rattle.layout.specs.declared.Document.{Document}
 use Rattle.memory.specs.Decode.{slots_part, slots_made, slots_free, pool_in, names_in, lengths_add, decode}
 use Rattle.memory.proofs.Columns.{length-gens}
@@ -34,26 +34,6 @@ slot-fits d made free r em ef e mem =
     ∙ sym (slot-from (decode d mem).free (decode d mem)
     ∙ ap (λ (k : ℕ). ltb 0 k || ltb (length (decode d mem).gens) d.limits.nodes) f
     ∙ ap (λ (k : ℕ). ltb 0 (slots_free d) || ltb k d.limits.nodes) (length-gens (pool_in d mem) (names_in d mem) (lengths_add d mem) d mem))
-
--- ---- a slot and entries
-
-both_yes : (t a s r u : Bool) → t ≡ (a && r) → t ≡ true → u ≡ s → u ≡ (a && (s && r))
-both_yes t true s true u e h k = k ∙ sym (and-true s)
-both_yes t true s false u e h k = absurd (false≢true (sym e ∙ h))
-both_yes t false s r u e h k = absurd (false≢true (sym e ∙ h))
-
-both-no : (t a s r : Bool) → t ≡ (a && r) → t ≡ false → false ≡ (a && (s && r))
-both-no t true s true e h = absurd (false≢true (sym h ∙ e))
-both-no t true true false e h = refl
-both-no t true false false e h = refl
-both-no t false s r e h = refl
-
-module _ (D : Doc) (w : Which) (h : ℕ) (t : Bool) (e : t ≡ (resolves D h && room_fits D w h)) where
-  pub node-yes : t ≡ true → (u : Bool) → u ≡ slot_fits D → u ≡ (resolves D h && node_fits D w h)
-  node-yes q u k = both_yes t (resolves D h) (slot_fits D) (room_fits D w h) u e q k
-
-  pub node-no : t ≡ false → false ≡ (resolves D h && node_fits D w h)
-  node-no q = both-no t (resolves D h) (slot_fits D) (room_fits D w h) e q
 
 -- ---- a node with what else it takes
 module _ (D : Doc) (w : Which) (h : ℕ) (live : resolves D h ≡ true) (t x : Bool) (e : t ≡ x) where

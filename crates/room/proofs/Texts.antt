@@ -1,9 +1,9 @@
 -- The texts of a document that keeps the rules are those of its pool's words.
 -- Assumes nothing.
-use mathlib.Core.Path.{◌≡◌, refl, sym, ap, ◌∙◌}
-use mathlib.Core.Bool.{Bool, true}
-use mathlib.Core.List.{List, [], ◌∷◌, reverse}
-use Prim.Native.Nat.{ℕ, ◌+◌, ◌≤◌, min}
+use mathlib.Core.Path.{◌≡◌, sym, ap, ◌∙◌}
+use mathlib.Core.Bool.{true}
+use mathlib.Core.List.{List, [], reverse}
+use Prim.Native.Nat.{ℕ, min}
 use native.Mathlib.Omega.{arith}
 use lib.ListN.{length}
 use lib.Seq.{ext_get_or}
@@ -12,10 +12,10 @@ use Rattle.words.specs.Lists.{tabulate}
 use Rattle.words.proofs.Parts.{length_part}
 use Rattle.words.proofs.Lists.{length-tabulate, get_or-tabulate}
 use Rattle.words.proofs.Tests.{and_left}
-use Rattle.texts.specs.Pool.{Pool, slots_for, texts_fit}
+use Rattle.texts.specs.Pool.{Pool, texts_fit}
 use Rattle.texts.specs.Words.{pool_of, Counted, text_shown, counts_fit}
 use Rattle.texts.proofs.Words.{pool-slots, fits-pool, shown-text}
-use Rattle.model.specs.Calls.{text_fits, two_fit}
+use Rattle.model.specs.Calls.{text_fits}
 use Rattle.layout.specs.declared.Document.{Document}
 use Rattle.layout.specs.Layout.{limits_of, texts_at, texts_words}
 use Rattle.memory.specs.Decode.{text_limits, text_counts, texts_part, pool_in, texts_add, names_add, lengths_add, decode}
@@ -70,27 +70,3 @@ module _ (d : Document) (mem : List ℕ) (u : Undamaged d mem) where
   text-fits k off on =
       fits-pool (text_limits d) (text_counts d) (texts_part d mem) counted k off on
       ∙ sym (ap (λ (p : Pool). texts_fit d.limits.texts d.limits.textbytes p k off on) pool-same)
-
-  pub texts-asked : (d.counts.texts ≤ d.limits.texts) × (d.counts.textbytes ≤ d.limits.textbytes) × (0 ≤ d.counts.textbytes)
-  texts-asked = ((counts-within d mem u).texts, (counts-within d mem u).textbytes, omega arith)
-
-  pub text-told : (t : List ℕ) (k : ℕ) (r : Bool) → k ≡ slots_for t → r ≡ counts_fit (text_limits d) (text_counts d) k 0 (length t) → r ≡ text_fits (decode d mem) (slots_for t) 0 (length t)
-  text-told t k r e q = (rw e at q) ∙ text-fits (slots_for t) 0 (length t)
-
-  pub two-told : (s t : List ℕ) (j k : ℕ) (r : Bool) → j ≡ slots_for s → k ≡ slots_for t → r ≡ counts_fit (text_limits d) (text_counts d) (j + k) 0 (length s + length t)
-      → r ≡ two_fit (decode d mem) s t
-  two-told s t j k r e f q = (rw (e, f) at q) ∙ text-fits (slots_for s + slots_for t) 0 (length s + length t)
-
--- ---- how many slots a text takes
-
-pub slots-none : (t : List ℕ) → length t ≡ 0 → 0 ≡ slots_for t
-slots-none [] e = refl
-slots-none (b ∷ t) e = absurd (omega arith)
-
-pub slots-one : (t : List ℕ) → (length t ≡ 0 → ⊥) → 1 ≡ slots_for t
-slots-one [] e = absurd (e refl)
-slots-one (b ∷ t) e = refl
-
-pub slots-few : (t : List ℕ) → slots_for t ≤ 1
-slots-few [] = omega arith
-slots-few (b ∷ t) = omega arith

@@ -12,7 +12,6 @@ ghost use Rattle.steps.specs.Next.{hinted_index, names_parent, visit_entry, seek
 use crate::position::{Position, hint_for, with_hint};
 use layout::Arena;
 use memory::view::View;
-use records::handle::{id_of, word_of};
 use records::{NodeId, Range};
 use showing::shown::{live_shown_block, live_shown_parent, shown_parent};
 use std::ops::ControlFlow;
@@ -42,9 +41,9 @@ fn hinted_index(view: &View<'_>, block: Range, word: u64, hint: usize) -> usize
 fn names_parent(view: &View<'_>, parent: u64, word: u64) -> bool
     ensures { result ≡ names_parent (decoded view.now) parent word }
 {
-    match shown_parent(view, id_of(word)) {
+    match shown_parent(view, NodeId::from(word)) {
         None => false,
-        Some(id) => parent == word_of(id),
+        Some(id) => parent == u64::from(id),
     }
 }
 
@@ -91,7 +90,7 @@ fn seek_listed(
     if room < len {
         return ControlFlow::Break(None);
     }
-    let node = word_of(parent);
+    let node = u64::from(parent);
     let k = hinted_index(view, block, word, hint_for(at.hints, len));
     if k + 1 < len {
         ControlFlow::Break(visit_entry(view, at, node, block, k + 1))
@@ -134,7 +133,7 @@ fn seek(
     if word == at.zone {
         return ControlFlow::Break(None);
     }
-    match live_shown_parent(view, id_of(word)) {
+    match live_shown_parent(view, NodeId::from(word)) {
         None => ControlFlow::Break(None),
         Some(parent) => seek_under(view, at, word, parent, room),
     }
@@ -177,7 +176,7 @@ pub fn successor(view: &View<'_>, at: Position, id: NodeId) -> Option<Position>
 pub fn step(view: &View<'_>, at: Position) -> Option<Position>
     ensures { result ≡ next (decoded view.now) at }
 {
-    let id = id_of(at.node);
+    let id = NodeId::from(at.node);
     if 0 < at.left.min(view.document.limits.nodes) && view.resolves(id) {
         successor(view, at, id)
     } else {

@@ -3,19 +3,16 @@
 use mathlib.Core.Path.{◌≡◌, refl, sym, ap, ap₂, ◌∙◌, subst}
 use mathlib.Core.Bool.{Bool, true, false, cond, and-true}
 use mathlib.Core.List.{List, [], ◌++◌}
-use Prim.Native.Nat.{ℕ, ◌+◌, ◌-◌, ◌*◌, ◌≤◌}
+use Prim.Native.Nat.{ℕ, ◌+◌, ◌-◌, ◌≤◌}
 use native.Mathlib.Omega.{arith}
 use lib.ListN.{length, take, drop, replicate, length-replicate}
 use lib.Dec.{leb}
-use borrow.Author.Tests.{leb-true}
 use Rattle.words.specs.Parts.{part, put}
 use Rattle.words.proofs.Parts.{lent, returned, length_part, part_none, put-nil, put_same}
-use Rattle.words.proofs.Tests.{and_left, and_right}
 use Rattle.blocks.specs.Arena.{Arena, Block, block, arena_of}
 use Rattle.blocks.specs.Rule.{Shaped}
 use Rattle.blocks.specs.Claims.{claimable, claimed, block_claimable, block_claimed}
 use Rattle.blocks.proofs.Decision.{decided-rule, rule-decided}
-use Rattle.records.specs.declared.Range.{Range}
 use Rattle.model.specs.Kinds.{Which, children, attributes, namespaces}
 use Rattle.model.specs.Doc.{Doc, Limits, live_slot, range_in}
 use Rattle.model.specs.Rules.{block_in}
@@ -23,11 +20,8 @@ use Rattle.model.specs.RulesTest.{all_which, blocks_hold}
 use Rattle.laws.proofs.Quantifiers.{which-at, at-which}
 use Rattle.laws.proofs.RulesTestBlocks.{blocks-of-test, test-of-blocks}
 use Rattle.layout.specs.declared.Document.{Document}
-use Rattle.layout.specs.declared.Limits as given
-use Rattle.layout.specs.declared.Arena as names
-use Rattle.layout.specs.declared.Arena.TheVariants.{Children, Attributes, Namespaces}
-use Rattle.layout.specs.Layout.{which_of, limits_of, entries_of, arena_at, scratch_words, memory_ok, buffers_ok}
-use Rattle.memory.specs.Decode.{block_of, arena_part, arena_used, arena_in}
+use Rattle.layout.specs.Layout.{limits_of, scratch_words, memory_ok}
+use Rattle.memory.specs.Decode.{arena_part, arena_used, arena_in}
 use Rattle.memory.proofs.Columns.{length-gens, live-past}
 use Rattle.memory.proofs.Shaped.{length_ids, length-caps, shape}
 use Rattle.entries.specs.Nodes.{no_texts, decode_nodes}
@@ -59,62 +53,42 @@ module _ (a : Arena) (m : List ℕ) (first : ℕ) where
   pub empty-claimed : (len : ℕ) → len ≡ 0 → block_claimed a m (block first len) ≡ m
   empty-claimed len z = rw z none-claimed
 
-pub claim-empty : (a : Arena) (at : ℕ) (before : List ℕ) → at + a.used ≤ length before → (first len : ℕ) → len ≡ 0 → Claim a (block first len) at before before (leb first a.used)
-claim-empty a at before h first len z = record {
-  answer = ap (leb first) (sym (length_part before at a.used h)) ∙ sym (empty-claimable a (part at a.used before) first len z);
-  marks = sym (ap (λ (v : List ℕ). put at v before) (empty-claimed a (part at a.used before) first len z) ∙ put_same before at a.used h);
+pub claim-empty : (a : Arena) (at : ℕ) (before : List ℕ) → at + a.used ≤ length before → (b : Block) → b.len ≡ 0 → Claim a b at before before (leb b.start a.used)
+claim-empty a at before h b z = record {
+  answer = ap (leb b.start) (sym (length_part before at a.used h)) ∙ sym (empty-claimable a (part at a.used before) b.start b.len z);
+  marks = sym (ap (λ (v : List ℕ). put at v before) (empty-claimed a (part at a.used before) b.start b.len z) ∙ put_same before at a.used h);
 }
 
--- ---- a claim over the parts as they are lent
+-- ---- a claim over the marks as they are lent
 
-module _ (mem scratch marks : List ℕ) (start limit at used first len : ℕ) (r : Bool) where
+module _ (words scratch marks : List ℕ) (limit at used : ℕ) (b : Block) (r : Bool) where
   pub claim-lent : at + used ≤ length scratch → length marks ≡ length (take (at + used - at) (drop at scratch))
-      → ((u : ℕ) → r ≡ block_claimable (arena_of limit u (take (start + (limit + limit) - start) (drop start mem))) (take (at + used - at) (drop at scratch)) (block first len))
-      × ((u : ℕ) → marks ≡ block_claimed (arena_of limit u (take (start + (limit + limit) - start) (drop start mem))) (take (at + used - at) (drop at scratch)) (block first len))
-      → Claim (arena_of limit used (part start (limit + limit) mem)) (block first len) at scratch (take at scratch ++ (marks ++ drop (at + used - at) (drop at scratch))) r
+      → ((u : ℕ) → r ≡ block_claimable (arena_of limit u words) (take (at + used - at) (drop at scratch)) b)
+      × ((u : ℕ) → marks ≡ block_claimed (arena_of limit u words) (take (at + used - at) (drop at scratch)) b)
+      → Claim (arena_of limit used words) b at scratch (take at scratch ++ (marks ++ drop (at + used - at) (drop at scratch))) r
   claim-lent h k f =
-      let p = lent mem start (limit + limit) in
       let q = lent scratch at used in
       let e : length marks ≡ used = k ∙ ap length q ∙ length_part scratch at used h in
       record {
-        answer = f.0 used ∙ ap₂ (λ (w m : List ℕ). block_claimable (arena_of limit used w) m (block first len)) p q;
+        answer = f.0 used ∙ ap (λ (m : List ℕ). block_claimable (arena_of limit used words) m b) q;
         marks =
             returned scratch marks at used e
-            ∙ ap (λ (v : List ℕ). put at v scratch) (f.1 used ∙ ap₂ (λ (w m : List ℕ). block_claimed (arena_of limit used w) m (block first len)) p q);
+            ∙ ap (λ (v : List ℕ). put at v scratch) (f.1 used ∙ ap (λ (m : List ℕ). block_claimed (arena_of limit used words) m b) q);
       }
 
 -- the same in the document's words
-module _ (d : Document) (mem : List ℕ) (w : Which) (i : ℕ) (live : live_slot (decode_nodes d mem) i ≡ true) (start limit at used : ℕ) (es : start ≡ arena_at (limits_of d.limits) w) (el : limit ≡ (limits_of d.limits).entries w)
+module _ (d : Document) (mem : List ℕ) (w : Which) (i : ℕ) (live : live_slot (decode_nodes d mem) i ≡ true) (words : List ℕ) (limit at used : ℕ) (es : words ≡ arena_part d w mem) (el : limit ≡ (limits_of d.limits).entries w)
     (ea : at ≡ marks_at (limits_of d.limits) w) (eu : used ≡ arena_used d w) where
-  arena-read : arena_of limit used (part start (limit + limit) mem) ≡ arena_in d w mem
-  arena-read =
-      let e : limit + limit ≡ 2 * entries_of d.limits w = omega arith in
-      ap₂ (λ (n : ℕ) (v : List ℕ). arena_of n used v) el (ap₂ (λ (p n : ℕ). part p n mem) es e)
-      ∙ ap (λ (u : ℕ). arena_of ((limits_of d.limits).entries w) u (arena_part d w mem)) eu
-
-  pub claim-read : (range : Range) → block_of range ≡ range_in (decode_nodes d mem) w i → (before after : List ℕ) (r : Bool)
-      → Claim (arena_of limit used (part start (limit + limit) mem)) (block range.start range.len) at before after r
-      → Claim (arena_in d w mem) (block_in (decode_nodes d mem) w i) (marks_at (limits_of d.limits) w) before after r
-  claim-read range b before after r c =
-      let e : block_of range ≡ block_in (decode_nodes d mem) w i = b ∙ sym (rw live) in
+  pub claim-read : (b : Block) → b ≡ range_in (decode_nodes d mem) w i → (before after : List ℕ) (r : Bool)
+      → Claim (arena_of limit used words) b at before after r → Claim (arena_in d w mem) (block_in (decode_nodes d mem) w i) (marks_at (limits_of d.limits) w) before after r
+  claim-read b q before after r c =
+      let e : b ≡ block_in (decode_nodes d mem) w i = q ∙ sym (rw live) in
+      let a : arena_of limit used words ≡ arena_in d w mem = rw (es, el, eu) in
       subst (λ (p : ℕ). Claim (arena_in d w mem) (block_in (decode_nodes d mem) w i) p before after r) ea
       (subst (λ (x : Block). Claim (arena_in d w mem) x at before after r) e
-      (subst (λ (a : Arena). Claim a (block_of range) at before after r) arena-read c))
+      (subst (λ (y : Arena). Claim y b at before after r) a c))
 
 -- ---- where the marks lie
-
-module _ (l : given.Limits) (a : names.Arena) where
-  pub marks-first : a ≡ Children → 4 * l.nodes ≡ marks_at (limits_of l) (which_of a)
-  unfolding marks_at
-  marks-first e = rw e
-
-  pub marks-second : a ≡ Attributes → 4 * l.nodes + l.children ≡ marks_at (limits_of l) (which_of a)
-  unfolding marks_at
-  marks-second e = rw e
-
-  pub marks-third : a ≡ Namespaces → 4 * l.nodes + l.children + l.attributes ≡ marks_at (limits_of l) (which_of a)
-  unfolding marks_at
-  marks-third e = rw e
 
 marks-within : (l : Limits) (w : Which) → marks_at l w + l.entries w ≤ scratch_words l
 unfolding marks_at scratch_words
@@ -132,10 +106,6 @@ pub text-marks-inside : (d : Document) → d.counts.texts ≤ d.limits.texts →
 unfolding text_marks_at scratch_words
 text-marks-inside d h = omega arith
 
-pub text-marks-at : (l : given.Limits) → 4 * l.nodes + l.children + l.attributes + l.namespaces ≡ text_marks_at (limits_of l)
-unfolding text_marks_at
-text-marks-at l = refl
-
 pub cleared_at : (at used p u : ℕ) (before marks : List ℕ) → at ≡ p → used ≡ u → marks ≡ replicate used 0
     → take at before ++ (marks ++ drop (at + used - at) (drop at before)) ≡ put p (replicate u 0) before
 cleared_at at used p u before marks e f q =
@@ -143,20 +113,8 @@ cleared_at at used p u before marks e f q =
     ∙ ap (λ (v : List ℕ). put at v before) q
     ∙ ap₂ (λ (i n : ℕ). put i (replicate n 0) before) e f
 
--- what test 4 tells of scratch
-pub buffers-memory : (d : Document) (mem scratch : ℕ) → buffers_ok d mem scratch ≡ true → memory_ok d mem ≡ true
-unfolding buffers_ok
-buffers-memory d mem scratch h = and_left (memory_ok d mem) (leb (scratch_words (limits_of d.limits)) scratch) h
-
-pub buffers-kept : (d : Document) (mem scratch scratch' : ℕ) → buffers_ok d mem scratch ≡ true → scratch' ≡ scratch → buffers_ok d mem scratch' ≡ true
-buffers-kept d mem scratch scratch' h e = ap (buffers_ok d mem) e ∙ h
-
-pub buffers-scratch : (d : Document) (mem scratch : ℕ) → buffers_ok d mem scratch ≡ true → scratch_words (limits_of d.limits) ≤ scratch
-unfolding buffers_ok
-buffers-scratch d mem scratch h = leb-true (scratch_words (limits_of d.limits)) scratch (and_right (memory_ok d mem) (leb (scratch_words (limits_of d.limits)) scratch) h)
-
-pub marks-inside : (d : Document) (w : Which) → marks_at (limits_of d.limits) w + arena_used d w ≤ scratch_words (limits_of d.limits)
-marks-inside d w = omega (arith, marks-within (limits_of d.limits) w)
+pub marks_inside : (d : Document) (w : Which) → marks_at (limits_of d.limits) w + arena_used d w ≤ scratch_words (limits_of d.limits)
+marks_inside d w = omega (arith, marks-within (limits_of d.limits) w)
 
 -- ---- the rule
 

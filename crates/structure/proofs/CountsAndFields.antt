@@ -266,9 +266,6 @@ module _ (d : Document) (mem : List ℕ) where
     fields-broken q = ended (counts_within (limits_of d.limits) d.counts && holds) (arenas_fit nodes && root_stands nodes) (counts && slots) true first-tests q
 
     module _ (q : (counts && slots) ≡ true) where
-      pub words-tested : words_hold d mem ≡ true
-      words-tested = and_right (counts_within (limits_of d.limits) d.counts) holds (sym first-tests ∙ q)
-
       pub fields-tested : (arenas stands : Bool) → arenas ≡ arenas_fit (decode_nodes d mem) → stands ≡ root_stands (decode_nodes d mem) → (arenas && stands) ≡ fields_fit d mem
       unfolding fields_fit
       fields-tested arenas stands ea er =

@@ -10,9 +10,6 @@ use lib.ListN.{length, replicate, length-replicate}
 pub cleared : (m m' : List ℕ) → m' ≡ replicate (length m) 0 → m' ≡ replicate (length m') 0
 cleared m m' e = e ∙ ap (λ (n : ℕ). replicate n 0) (sym (ap length e ∙ length-replicate (length m) 0))
 
-pub cleared-as-long : (m m' m'' : List ℕ) → length m' ≡ length m → m'' ≡ replicate (length m') 0 → m'' ≡ replicate (length m) 0
-cleared-as-long m m' m'' k e = e ∙ ap (λ (n : ℕ). replicate n 0) k
-
 -- two tests that follow from one another are one
 pub both_ways : (a b : Bool) → (a ≡ true → b ≡ true) → (b ≡ true → a ≡ true) → a ≡ b
 both_ways true b f g = sym (f refl)

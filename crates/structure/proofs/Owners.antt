@@ -4,7 +4,7 @@ use Rattle.std.specs.Prelude.{Option, None, Some}
 use mathlib.Core.Path.{◌≡◌, sym, ap, ◌∙◌}
 use mathlib.Core.Bool.{Bool, true, false, not, ◌&&◌}
 use mathlib.Core.List.{List, []}
-use Prim.Native.Nat.{ℕ, ◌%◌}
+use Prim.Native.Nat.{ℕ}
 use lib.Dec.{eqb, leb}
 use borrow.Author.Tests.{eq-eqb, ne_eqb}
 use Rattle.words.specs.Lists.{all_below}
@@ -40,17 +40,6 @@ module _ (owner owned : ℕ) (t : Bool) (e : t ≡ child_number owned) where
   owns-lists n = sym (rw (sym e ∙ n))
 
 -- ---- the parent of a node
-
-module _ (D : Doc) (handle kind : ℕ) (t : Bool) (e : t ≡ resolves D handle) where
-  pub owner-current : t ≡ true → (owner : ℕ) (r : Bool) → owner ≡ kind_number (kind_in D (handle % 4294967296)) → r ≡ owns_number owner kind
-      → r ≡ (resolves D handle && owns_number (kind_number (kind_at D handle)) kind)
-  owner-current y owner r o q =
-      q
-      ∙ ap (λ (n : ℕ). owns_number n kind) o
-      ∙ ap (λ (u : Bool). u && owns_number (kind_number (kind_at D handle)) kind) (sym y ∙ e)
-
-  pub owner-stale : t ≡ false → false ≡ (resolves D handle && owns_number (kind_number (kind_at D handle)) kind)
-  owner-stale n = ap (λ (u : Bool). u && owns_number (kind_number (kind_at D handle)) kind) (sym n ∙ e)
 
 module _ (D : Doc) (i kind : ℕ) (k : kind ≡ kind_number (kind_in D i)) (p : Option NodeId) (f : handle_of p ≡ parent_in D i) where
   pub parent-none : p ≡ None → (r : Bool) → r ≡ child_number kind → r ≡ parent_holds D i (parent_in D i)

@@ -11,13 +11,13 @@ use lib.Seq.{length-take-le}
 use Rattle.std.proofs.lemmas.List.{take_more}
 use lib.Dec.{eqb, leb}
 use Rattle.words.specs.Lists.{all, count_of}
-use Rattle.words.proofs.Lists.{count_of-le, all_below-at, count_of-snoc}
-use Rattle.words.proofs.Tests.{and_left, and_right, and_both}
+use Rattle.words.proofs.Lists.{count_of-le, count_of-snoc}
+use Rattle.words.proofs.Tests.{and_right, and_both}
 use Rattle.blocks.specs.Arena.{list_of}
 use Rattle.blocks.proofs.Capacities.{capacity-least}
 use Rattle.records.specs.declared.Range.{Range}
 use Rattle.model.specs.Kinds.{children}
-use Rattle.model.specs.Doc.{Doc, generation_at, live_slot, resolves, kind_in, kind_at, parent_in, range_in, list_in, even, is_some}
+use Rattle.model.specs.Doc.{Doc, generation_at, live_slot, kind_in, kind_at, parent_in, range_in, list_in, even, is_some}
 use Rattle.model.specs.Rules.{block_in}
 use Rattle.model.specs.RulesTest.{all_option, all_live, entered_once, entry_holds, counts_and_fields_hold, entries_hold, blocks_hold, one_root_element_holds}
 use Rattle.laws.proofs.Quantifiers.{which-at, live_at}
@@ -28,7 +28,6 @@ use Rattle.layout.specs.Layout.{memory_ok}
 use Rattle.memory.specs.Decode.{block_of, arena_in}
 use Rattle.memory.proofs.Shaped.{shape}
 use Rattle.entries.specs.Nodes.{no_texts, decode_nodes, kind_number}
-use Rattle.entries.proofs.Lists.{all_below-all}
 use Rattle.structure.specs.Tests.{element_test}
 use Rattle.structure.proofs.KindNumbers.{element-kind}
 
@@ -37,13 +36,6 @@ use Rattle.structure.proofs.KindNumbers.{element-kind}
 pub element-shown : (D : Doc) (handle kind : ℕ) → kind ≡ kind_number (kind_in D (handle % 4294967296)) → eqb kind 1 ≡ element_test D handle
 unfolding element_test
 element-shown D handle kind e = ap (λ (k : ℕ). eqb k 1) e ∙ element-kind (kind_at D handle)
-
--- an entry of a list that rule 4 holds of resolves
-pub entry-resolves : (D : Doc) (entries : List ℕ) (k : ℕ) → all (entry_holds D children 0) entries ≡ true → k < length entries → resolves D (get_or entries k 0) ≡ true
-entry-resolves D entries k h b =
-    let r : entry_holds D children 0 (get_or entries k 0) ≡ true =
-    all_below-at (λ i. entry_holds D children 0 (get_or entries i 0)) (length entries) (all_below-all (entry_holds D children 0) entries 0 ∙ h) k b in
-    search (and_left)
 
 -- ---- counting
 

@@ -4,31 +4,21 @@ use Rattle.std.specs.Prelude.{Option, None, Some}
 use mathlib.Core.Path.{◌≡◌, refl, sym, ap, ap₂, ◌∙◌}
 use mathlib.Core.Bool.{Bool, true, false, ◌&&◌, and-false}
 use mathlib.Core.List.{List}
-use Prim.Native.Nat.{ℕ, zero, suc, ◌≤◌}
-use native.Mathlib.Omega.{arith}
+use Prim.Native.Nat.{ℕ, zero, suc}
 use lib.ListN.{length}
-use lib.Dec.{leb}
-use borrow.Author.Tests.{leb-true}
 use Rattle.words.proofs.Tests.{and_left, and_right}
 use Rattle.records.specs.Handles.{handle_index}
 use Rattle.words.proofs.Lists.{all_below-same}
 use Rattle.model.specs.Doc.{live_slot, parent_in}
 use Rattle.model.specs.RulesTest.{implies, all_option, all_slots, all_live, counts_and_fields_hold, free_list_holds, parent_holds, parents_hold, ends_within, entries_hold, arena_holds, blocks_hold, parents_end_holds, one_root_element_holds, texts_hold, eight_hold, rules_hold}
 use Rattle.layout.specs.declared.Document.{Document}
-use Rattle.layout.specs.Layout.{limits_of, scratch_words, memory_ok, buffers_ok}
-use Rattle.memory.specs.Decode.{slots_made, lengths_add, decode}
+use Rattle.layout.specs.Layout.{memory_ok}
+use Rattle.memory.specs.Decode.{lengths_add, decode}
 use Rattle.entries.specs.Nodes.{decode_nodes}
 use Rattle.structure.specs.Tests.{only_root, fields_fit, each_holds}
 use Rattle.structure.proofs.Lists.{both_ways, ended-first, ended-second, decided-third}
 use Rattle.structure.proofs.CountsAndFields.{fields-decide}
 use Rattle.structure.proofs.TextsShown.{fields-decoded}
-
--- scratch has a word for each slot made
-pub slots-inside : (d : Document) (mem scratch : ℕ) → buffers_ok d mem scratch ≡ true → slots_made d ≤ scratch
-unfolding buffers_ok scratch_words
-slots-inside d mem scratch h =
-    let b = leb-true (scratch_words (limits_of d.limits)) scratch (and_right (memory_ok d mem) (leb (scratch_words (limits_of d.limits)) scratch) h) in
-    omega arith
 
 -- ---- the order of the tests
 

@@ -38,7 +38,7 @@ use Rattle.structure.specs.Turns.{Claim, owner_holds, arena_marks, text_marks, C
 use Rattle.structure.proofs.Lists.{ended, ended-first, ended-second, decided, decided-third}
 use Rattle.structure.proofs.Owners.{all-parents}
 use Rattle.structure.proofs.CountsAndFields.{all-roots}
-use Rattle.structure.proofs.Claimed.{empty-claimable, empty-claimed, marks-inside, marks-before-texts, text-marks-inside, blocks-decided}
+use Rattle.structure.proofs.Claimed.{empty-claimable, empty-claimed, marks_inside, marks-before-texts, text-marks-inside, blocks-decided}
 
 -- ---- a write to the marks of one arena leaves those of the others
 
@@ -47,20 +47,20 @@ module _ (d : Document) (w : Which) (before ys : List ℕ) (size : length ys ≡
   unfolding arena_marks
   here =
       ap (λ (n : ℕ). part (marks_at (limits_of d.limits) w) n (put (marks_at (limits_of d.limits) w) ys before)) (sym size)
-      ∙ part-put-same before (marks_at (limits_of d.limits) w) ys (omega (arith, marks-inside d w))
+      ∙ part-put-same before (marks_at (limits_of d.limits) w) ys (omega (arith, marks_inside d w))
 
   behind : (v : Which) → marks_at (limits_of d.limits) w + arena_used d w ≤ marks_at (limits_of d.limits) v → arena_marks d (put (marks_at (limits_of d.limits) w) ys before) v ≡ arena_marks d before v
   unfolding arena_marks
-  behind v h = part-put-after before (marks_at (limits_of d.limits) w) ys (marks_at (limits_of d.limits) v) (arena_used d v) (omega arith) (omega (arith, marks-inside d w))
+  behind v h = part-put-after before (marks_at (limits_of d.limits) w) ys (marks_at (limits_of d.limits) v) (arena_used d v) (omega arith) (omega (arith, marks_inside d w))
 
   ahead : (v : Which) → marks_at (limits_of d.limits) v + arena_used d v ≤ marks_at (limits_of d.limits) w → arena_marks d (put (marks_at (limits_of d.limits) w) ys before) v ≡ arena_marks d before v
   unfolding arena_marks
-  ahead v h = part-put-before before (marks_at (limits_of d.limits) w) ys (marks_at (limits_of d.limits) v) (arena_used d v) h (omega (arith, marks-inside d w))
+  ahead v h = part-put-before before (marks_at (limits_of d.limits) w) ys (marks_at (limits_of d.limits) v) (arena_used d v) h (omega (arith, marks_inside d w))
 
   texts-behind : text_marks d (put (marks_at (limits_of d.limits) w) ys before) ≡ text_marks d before
   unfolding text_marks
   texts-behind =
-      part-put-after before (marks_at (limits_of d.limits) w) ys (text_marks_at (limits_of d.limits)) d.counts.texts (omega (arith, marks-before-texts d w)) (omega (arith, marks-inside d w))
+      part-put-after before (marks_at (limits_of d.limits) w) ys (text_marks_at (limits_of d.limits)) d.counts.texts (omega (arith, marks-before-texts d w)) (omega (arith, marks_inside d w))
 
 -- and a write to the marks of the texts those of all arenas
 module _ (d : Document) (before ys : List ℕ) (size : length ys ≡ d.counts.texts) (fits : d.counts.texts ≤ d.limits.texts) (inside : scratch_words (limits_of d.limits) ≤ length before) where
@@ -163,7 +163,7 @@ module _ (d : Document) (mem : List ℕ) (s : ℕ) where
   unfolding arena_marks
   claimed-size scratch long w =
       length-claimed (part (marks_at (limits_of d.limits) w) (arena_used d w) scratch) (block_in D w s).start (cap_of (arena_in d w mem) (block_in D w s))
-      ∙ length_part scratch (marks_at (limits_of d.limits) w) (arena_used d w) (omega (arith, marks-inside d w))
+      ∙ length_part scratch (marks_at (limits_of d.limits) w) (arena_used d w) (omega (arith, marks_inside d w))
 
   claim-met : (w : Which) (before after : List ℕ) (r : Bool) → Claim (arena_in d w mem) (block_in (decode_nodes d mem) w s) (marks_at (limits_of d.limits) w) before after r → r ≡ claim_met d mem s before w
   unfolding claim_met arena_marks
@@ -473,6 +473,3 @@ module _ (d : Document) (mem : List ℕ) where
 
       pub pool-decides : t ≡ true → (r : Bool) → r ≡ pool_holds d mem → r ≡ each_holds d mem
       pool-decides q r f = decided (slots_hold d mem) (pool_holds d mem) t r e.answer q f ∙ each-are
-
-      pub each-counted : t ≡ true → Counted d.counts.texts (gathered (held_in (decode_nodes d mem)) (slots_made d)) (text_marks d after)
-      each-counted q = e.counted q

@@ -3,15 +3,15 @@ ghost use Rattle.std.specs.Prelude.{◌≡◌, true, ◌&&◌, length};
 ghost use Rattle.slots.specs.WordsRule.{words_rule};
 ghost use Rattle.model.specs.Kinds.{is_root};
 ghost use Rattle.model.specs.Doc.{live_slot, kind_in, parent_in, is_none};
-ghost use Rattle.layout.specs.Layout.{limits_of, which_of, memory_ok};
+ghost use Rattle.layout.specs.Layout.{limits_of, which_of};
 ghost use Rattle.memory.specs.Decode.{counts_within, slots_part, slots_made};
-ghost use Rattle.entries.specs.Nodes.{decode_nodes, words_hold};
+ghost use Rattle.entries.specs.View.{decoded_nodes};
 ghost use Rattle.structure.specs.Tests.{capacities_fit, arenas_fit, root_stands, fields_fit};
 
-use entries::nodes::kind_of;
-use layout::{Arena, Counts, Document, Limits, arena_at, arena_limit};
-use memory::fields::has_no_parent;
-use memory::read::{arena_used, generation, made, slots};
+use entries::nodes::{Nodes, kind_of};
+use layout::{Arena, Counts, Limits, arena_at, arena_limit};
+use memory::read::{arena_used, made};
+use memory::view::View;
 use records::kind::ROOT;
 use words::NodeSlot;
 
@@ -32,60 +32,58 @@ fn counts_within(l: Limits, c: Counts) -> bool
 }
 
 // Whether the words of the slots made are within their fields.
-fn slots_fit(d: Document, mem: &[u64]) -> bool
-    requires { memory_ok d (length mem.now) ≡ true }
-    ensures { result ≡ words_rule d.limits.nodes (slots_part d mem.now) (slots_made d) }
+fn slots_fit(view: &View<'_>) -> bool
+    ensures { result ≡ words_rule view.now.document.limits.nodes (slots_part view.now.document view.now.words.now) (slots_made view.now.document) }
 {
-    slots(d, mem).check_words(made(d))
+    view.slots().check_words(made(view.document))
 }
 
 // Whether the capacities of an arena's entries in use are within their fields: their upper halves add up to 0, so that no branch stands between the entries.
-fn capacities_fit(d: Document, mem: &[u64], arena: Arena) -> bool
-    requires { memory_ok d (length mem.now) ≡ true }
-    ensures { result ≡ capacities_fit (decode_nodes d mem.now) (which_of arena) }
+#[tactic(auto, using(layout::proofs::Sizes::limits_within))]
+fn capacities_fit(view: &View<'_>, arena: Arena) -> bool
+    ensures { result ≡ capacities_fit (decoded_nodes view.now) (which_of arena) }
 {
+    let d = view.document;
     let start = arena_at(d.limits, arena) + arena_limit(d.limits, arena);
     let end = start + arena_used(d, arena);
     let mut upper = 0;
-    for &capacity in &mem[start..end] {
+    for &capacity in &view.words[start..end] {
         upper += capacity / 4294967296;
     }
     upper == 0
 }
 
-fn arenas_fit(d: Document, mem: &[u64]) -> bool
-    requires { memory_ok d (length mem.now) ≡ true }
-    ensures { result ≡ arenas_fit (decode_nodes d mem.now) }
+fn arenas_fit(view: &View<'_>) -> bool
+    ensures { result ≡ arenas_fit (decoded_nodes view.now) }
 {
-    capacities_fit(d, mem, Arena::Children)
-        & capacities_fit(d, mem, Arena::Attributes)
-        & capacities_fit(d, mem, Arena::Namespaces)
+    capacities_fit(view, Arena::Children)
+        & capacities_fit(view, Arena::Attributes)
+        & capacities_fit(view, Arena::Namespaces)
 }
 
 // Whether slot 0, which is live, is a Root without a parent.
-fn is_top(d: Document, mem: &[u64]) -> bool
-    requires { (memory_ok d (length mem.now) ≡ true) × (live_slot (decode_nodes d mem.now) 0 ≡ true) }
-    ensures { result ≡ (is_root (kind_in (decode_nodes d mem.now) 0) && is_none (parent_in (decode_nodes d mem.now) 0)) }
+fn is_top(view: &View<'_>) -> bool
+    requires { live_slot (decoded_nodes view.now) 0 ≡ true }
+    ensures { result ≡ (is_root (kind_in (decoded_nodes view.now) 0) && is_none (parent_in (decoded_nodes view.now) 0)) }
 {
-    kind_of(d, mem, 0) == ROOT && has_no_parent(d, mem, NodeSlot(0))
+    kind_of(view, 0) == ROOT && view.has_no_parent(NodeSlot(0))
 }
 
 // Whether slot 0 is a live Root of generation 0 without a parent.
-fn root_stands(d: Document, mem: &[u64]) -> bool
-    requires { (memory_ok d (length mem.now) ≡ true) × (words_hold d mem.now ≡ true) }
-    ensures { result ≡ root_stands (decode_nodes d mem.now) }
+fn root_stands(nodes: &Nodes<'_>) -> bool
+    ensures { result ≡ root_stands (decoded_nodes nodes.now.view) }
 {
-    if made(d) == 0 {
+    let view = &nodes.view;
+    if made(view.document) == 0 {
         return false;
     }
-    generation(d, mem, NodeSlot(0)) == 0 && is_top(d, mem)
+    view.generation(NodeSlot(0)) == 0 && is_top(view)
 }
 
 // Whether rule 1 holds, but for the numbers of texts and names, and for other Roots: the pass over the slots tests those.
-pub fn check_fields(d: Document, mem: &[u64]) -> bool
-    requires { memory_ok d (length mem.now) ≡ true }
-    ensures { result ≡ fields_fit d mem.now }
+pub fn check_fields(view: &View<'_>) -> bool
+    ensures { result ≡ fields_fit view.now.document view.now.words.now }
 {
-    (counts_within(d.limits, d.counts) & slots_fit(d, mem))
-        && (arenas_fit(d, mem) & root_stands(d, mem))
+    (counts_within(view.document.limits, view.document.counts) & slots_fit(view))
+        && (arenas_fit(view) & root_stands(&Nodes { view: *view }))
 }

@@ -73,18 +73,21 @@ module _ (limits : TextLimits) (counts : TextCounts) (words : List ℕ) (h : Cou
     before-bytes p n b =
         part-put-before words (start_at limits words slot + len) (part (start_at limits words slot + length_of words slot) behind words) p n (omega arith) (omega (arith, h.size, ends-here))
 
-    pub ends-movable : limits.bytes < 18446744073709551616 → Movable (bytes_moved limits counts words slot len) slot (counts.slots - slot) (length_of words slot) len
+    pub ends-movable : limits.bytes < 18446744073709551616 → Movable (part slot (counts.slots - slot) (bytes_moved limits counts words slot len)) (length_of words slot) len
     unfolding bytes_moved
     ends-movable w =
         record {
-          inside = omega (arith, size-bytes, h.size, h.slots);
-          low = λ i b. omega (arith, same i b, (end-behind i b).0);
-          small = λ i b. omega (arith, same i b, (end-behind i b).1, (end-behind i b).0);
+          low = λ i b. let g : i < counts.slots - slot = omega (arith, count) in omega (arith, same i g, (end-behind i g).0);
+          small = λ i b. let g : i < counts.slots - slot = omega (arith, count) in omega (arith, same i g, (end-behind i g).1, (end-behind i g).0);
         }
       where
-        same : (i : ℕ) → i < counts.slots - slot → get_or (bytes_moved limits counts words slot len) (slot + i) 0 ≡ get_or words (slot + i) 0
+        count : length (part slot (counts.slots - slot) (bytes_moved limits counts words slot len)) ≡ counts.slots - slot
+        count = length_part (bytes_moved limits counts words slot len) slot (counts.slots - slot) (omega (arith, size-bytes, h.size, h.slots))
+
+        same : (i : ℕ) → i < counts.slots - slot → get_or (part slot (counts.slots - slot) (bytes_moved limits counts words slot len)) i 0 ≡ get_or words (slot + i) 0
         same i b =
-            get_or-put-before words (start_at limits words slot + len) (part (start_at limits words slot + length_of words slot) behind words) (slot + i) 0
+            get_or-part (bytes_moved limits counts words slot len) slot (counts.slots - slot) i 0 b
+            ∙ get_or-put-before words (start_at limits words slot + len) (part (start_at limits words slot + length_of words slot) behind words) (slot + i) 0
             (omega (arith, h.slots)) (omega (arith, h.size, ends-here))
 
   -- a text given the room that it had leaves all words

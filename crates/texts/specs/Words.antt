@@ -75,11 +75,10 @@ counts_fit limits counts k off on = leb (counts.slots + k) (limits.slots + count
 abbrev pub start_at : TextLimits → List ℕ → ℕ → ℕ
 start_at limits words slot = bytes_at limits + start_of words slot
 
--- what moving n ends from a slot on asks: no end falls below 0, and none grows past its word
-pub record Movable (words : List ℕ) (slot n old len : ℕ) : Type 0 where
-  pub inside : slot + n ≤ length words
-  pub low : (i : ℕ) → i < n → old ≤ get_or words (slot + i) 0
-  pub small : (i : ℕ) → i < n → get_or words (slot + i) 0 - old + len < 18446744073709551616
+-- what moving these ends asks: none falls below 0, and none grows past its word
+pub record Movable (ends : List ℕ) (old len : ℕ) : Type 0 where
+  pub low : (i : ℕ) → i < length ends → old ≤ get_or ends i 0
+  pub small : (i : ℕ) → i < length ends → get_or ends i 0 - old + len < 18446744073709551616
 
 -- the ends moved
 unfoldable pub ends_moved : List ℕ → ℕ → ℕ → ℕ → ℕ → List ℕ

@@ -1,8 +1,8 @@
 // Storing and replacing a text.
-ghost use Rattle.std.specs.Prelude.{◌≡◌, true, ◌+◌, ◌≤◌, ◌<◌, length};
-ghost use Rattle.words.specs.Ends.{length_of};
+ghost use Rattle.std.specs.Prelude.{◌≡◌, true, map, ◌+◌, ◌≤◌, ◌<◌, length};
+ghost use Rattle.words.specs.Ends.{length_of, moved_end};
 ghost use Rattle.texts.specs.Pool.{slots_for};
-ghost use Rattle.texts.specs.Words.{start_at, Counted, PoolHeld, counts_fit, Movable, ends_moved, roomed, rewritten, StoredTo, ReplacedTo};
+ghost use Rattle.texts.specs.Words.{start_at, Counted, PoolHeld, counts_fit, Movable, roomed, rewritten, StoredTo, ReplacedTo};
 
 use crate::{TextCounts, TextLimits};
 use words::TextSlot;
@@ -15,17 +15,17 @@ pub struct Stored {
     pub counts: TextCounts,
 }
 
-// Stays: the words to write are no `TextPool`: with `&mut` words each writer has two clauses more, and who lends them must prove by names of the check's own.
-// Moves n ends from an index on, for a text that has len bytes in place of old.
-fn move_ends(words: &mut [u64], at: usize, n: usize, old: usize, len: usize)
-    requires { Movable words.old at n old len }
-    ensures { words.new ≡ ends_moved words.old at n old len }
+// Moves the ends behind a text that has len bytes in place of old, and its own.
+fn move_ends(ends: &mut [u64], old: usize, len: usize)
+    requires { Movable ends.old old len }
+    ensures { ends.new ≡ map (moved_end old len) ends.old }
 {
-    for end in &mut words[at..at + n] {
+    for end in ends {
         *end = *end - old as u64 + len as u64;
     }
 }
 
+// Stays: the words to write are no `TextPool`: with `&mut` words each writer has two clauses more, and who lends them must prove by names of the check's own.
 // Gives the text of a slot room for len bytes: the bytes behind it move, and so do the ends from it on. Answers at which index its bytes begin, and how many
 // it had.
 fn make_room(
@@ -46,7 +46,7 @@ fn make_room(
     let at = base + start;
     if old != len {
         words.copy_within(at + old..base + counts.bytes, at + len);
-        move_ends(words, s, counts.slots - s, old, len);
+        move_ends(&mut words[s..counts.slots], old, len);
     }
     Place {
         start: at,

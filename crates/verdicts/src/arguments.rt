@@ -6,9 +6,10 @@ ghost use Rattle.model.specs.Arguments.{refuse_if, first, not_utf8, name_check, 
 ghost use Rattle.model.specs.Checks.{text_under, is_empty, undeclares_prefix, declaration_check};
 ghost use Rattle.verdicts.specs.Verdicts.{verdict_number};
 
-use crate::verdict::{of_check, refuse_if};
+use crate::verdict::refuse_if;
 use chars::utf8::Unit;
 use model::Refusal;
+use names::ExpandedName;
 
 pub fn not_utf8(text: &[u8]) -> Result<(), Refusal>
     ensures { verdict_number result ≡ not_utf8 (text.now ∷ []) }
@@ -44,16 +45,19 @@ pub fn not_space<T: Unit>(under_root: bool, text: &[T]) -> Result<(), Refusal>
 pub fn text_under(under_root: bool, text: &[u8]) -> Result<(), Refusal>
     ensures { verdict_number result ≡ text_under under_root text.now }
 {
-    of_check(productions::checks::check_text(text))?;
+    productions::checks::check_text(text)?;
     not_space(under_root, text)
 }
 
 // The local part, then the namespace.
-pub fn check_name(namespace: &[u8], local: &[u8]) -> Result<(), Refusal>
-    ensures { verdict_number result ≡ first (name_check local.now) (namespace_check namespace.now) }
+pub fn check_name(name: ExpandedName<'_>) -> Result<(), Refusal>
+    ensures { verdict_number result ≡ first (name_check name.entry.local.now) (namespace_check name.entry.namespace.now) }
 {
-    refuse_if(!productions::checks::is_ncname(local), Refusal::InvalidName)?;
-    of_check(productions::checks::check_namespace(namespace))
+    refuse_if(
+        !productions::checks::is_ncname(name.local),
+        Refusal::InvalidName,
+    )?;
+    productions::checks::check_namespace(name.namespace).map_err(Refusal::from)
 }
 
 // Only the default namespace may be undone.
@@ -67,17 +71,17 @@ fn not_undeclared(prefix: &[u8], uri: &[u8]) -> Result<(), Refusal>
 pub fn check_declaration(prefix: &[u8], uri: &[u8]) -> Result<(), Refusal>
     ensures { verdict_number result ≡ declaration_check prefix.now uri.now }
 {
-    of_check(productions::checks::check_prefix(prefix))?;
-    of_check(productions::checks::check_namespace_binding(uri))?;
+    productions::checks::check_prefix(prefix)?;
+    productions::checks::check_namespace_binding(uri)?;
     not_undeclared(prefix, uri)
 }
 
 // No attribute without a namespace is called xmlns.
-fn not_xmlns(namespace: &[u8], local: &[u8]) -> Result<(), Refusal>
-    ensures { verdict_number result ≡ refuse_if (is_empty namespace.now && is_xmlns local.now) 2 }
+fn not_xmlns(name: ExpandedName<'_>) -> Result<(), Refusal>
+    ensures { verdict_number result ≡ refuse_if (is_empty name.entry.namespace.now && is_xmlns name.entry.local.now) 2 }
 {
     refuse_if(
-        namespace.is_empty() && productions::checks::is_xmlns(local),
+        name.namespace.is_empty() && productions::checks::is_xmlns(name.local),
         Refusal::InvalidName,
     )
 }
@@ -86,7 +90,7 @@ fn not_xmlns(namespace: &[u8], local: &[u8]) -> Result<(), Refusal>
 fn check_value(value: &[u8], local: &[u8], found: bool) -> Result<(), Refusal>
     ensures { verdict_number result ≡ first (text_check value.now) (cond found 0 (name_check local.now)) }
 {
-    of_check(productions::checks::check_text(value))?;
+    productions::checks::check_text(value)?;
     refuse_if(
         !found && !productions::checks::is_ncname(local),
         Refusal::InvalidName,
@@ -94,15 +98,10 @@ fn check_value(value: &[u8], local: &[u8], found: bool) -> Result<(), Refusal>
 }
 
 // The arguments of `set_attribute`: the name is tested last.
-pub fn check_attribute(
-    namespace: &[u8],
-    local: &[u8],
-    value: &[u8],
-    found: bool,
-) -> Result<(), Refusal>
-    ensures { verdict_number result ≡ first (namespace_check namespace.now) (first (refuse_if (is_empty namespace.now && is_xmlns local.now) 2) (first (text_check value.now) (cond found 0 (name_check local.now)))) }
+pub fn check_attribute(name: ExpandedName<'_>, value: &[u8], found: bool) -> Result<(), Refusal>
+    ensures { verdict_number result ≡ first (namespace_check name.entry.namespace.now) (first (refuse_if (is_empty name.entry.namespace.now && is_xmlns name.entry.local.now) 2) (first (text_check value.now) (cond found 0 (name_check name.entry.local.now)))) }
 {
-    of_check(productions::checks::check_namespace(namespace))?;
-    not_xmlns(namespace, local)?;
-    check_value(value, local, found)
+    productions::checks::check_namespace(name.namespace)?;
+    not_xmlns(name)?;
+    check_value(value, name.local, found)
 }

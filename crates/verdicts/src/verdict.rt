@@ -1,12 +1,10 @@
 // What a plan answers: Ok, or the first refusal of its tests.
 ghost use Rattle.std.specs.Prelude.{◌≡◌};
-ghost use Rattle.chars.specs.Checks as chars;
 ghost use Rattle.model.specs.Refusals.{number_of};
 ghost use Rattle.model.specs.Arguments.{refuse_if};
 ghost use Rattle.model.specs.Calls.{full_unless};
 ghost use Rattle.verdicts.specs.Verdicts.{verdict_number};
 
-use chars::Fault;
 use model::Refusal;
 
 // A refusal where the test passes.
@@ -14,18 +12,6 @@ pub fn refuse_if(test: bool, why: Refusal) -> Result<(), Refusal>
     ensures { verdict_number result ≡ refuse_if test (number_of why) }
 {
     if test { Err(why) } else { Ok(()) }
-}
-
-// What a check of bytes answers.
-pub fn of_check(check: Result<(), Fault>) -> Result<(), Refusal>
-    ensures { verdict_number result ≡ chars.number_of check }
-{
-    match check {
-        Ok(()) => Ok(()),
-        Err(Fault::NotUtf8) => Err(Refusal::NotUtf8),
-        Err(Fault::InvalidName) => Err(Refusal::InvalidName),
-        Err(Fault::InvalidText) => Err(Refusal::InvalidText),
-    }
 }
 
 // Full, asked last.

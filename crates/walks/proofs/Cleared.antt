@@ -7,17 +7,14 @@ use Prim.Native.Nat.{ℕ, ◌+◌, ◌-◌, ◌*◌, ◌≤◌}
 use native.Mathlib.Omega.{arith}
 use lib.ListN.{length, take, drop, replicate, length-append, length-replicate, length-drop, take-append-drop}
 use lib.Seq.{length-take-le}
-use lib.Dec.{leb}
-use borrow.Author.Tests.{leb-true}
 use Rattle.words.specs.Parts.{part, put}
 use Rattle.words.proofs.Parts.{length_part, part-add, drop-part, length-put, part-put-same, part-put-after, drop-put-after, put-put, put_same, put_back, put-left}
-use Rattle.words.proofs.Tests.{and_left, and_right}
 use Rattle.slots.specs.Regions.{clear_order}
 use Rattle.model.specs.Kinds.{children}
 use Rattle.model.specs.Doc.{Doc, change_order, no_key}
 use Rattle.model.specs.Edits.{keyed, ordered, order_of, renew_order}
 use Rattle.layout.specs.declared.Document.{Document}
-use Rattle.layout.specs.Layout.{limits_of, document_words, scratch_words, memory_ok, buffers_ok}
+use Rattle.layout.specs.Layout.{limits_of, document_words, scratch_words, memory_ok}
 use Rattle.memory.specs.Decode.{slots_part, slots_made, pool_in, names_in, lengths_add, decode}
 use Rattle.memory.specs.Writing.{put_slots}
 use Rattle.memory.specs.Step.{Step}
@@ -82,10 +79,6 @@ module _ (d : Document) (mem : List ℕ) (ok : memory_ok d (length mem) ≡ true
       length-append (replicate (slots_made d) no_key) (drop (slots_made d) (decode d mem).order)
       ∙ omega (arith, length-replicate (slots_made d) no_key, length-drop (slots_made d) (decode d mem).order, length-order d mem ok)
 
-  pub length-clear_keys : length (clear_keys d mem) ≡ length mem
-  unfolding clear_keys
-  length-clear_keys = length-put_orders d mem ok (replicate (slots_made d) no_key ++ drop (slots_made d) (decode d mem).order) cleared-size
-
   pub decode-clear_keys : decode d (clear_keys d mem) ≡ change_order (decode d mem) (replicate (slots_made d) no_key ++ drop (slots_made d) (decode d mem).order) d.current
   unfolding clear_keys
   decode-clear_keys = decode-put_orders d mem ok (replicate (slots_made d) no_key ++ drop (slots_made d) (decode d mem).order) cleared-size d.current
@@ -96,9 +89,6 @@ module _ (d : Document) (mem : List ℕ) (ok : memory_ok d (length mem) ≡ true
   walkable-cleared W mem' e =
       subst Walkable (sym (ap (decode d) e ∙ decode-clear_keys))
       (record { entries = record { one = W.entries.one; no_other = W.entries.no_other }; blocks = W.blocks; root = W.root; top = W.top })
-
-  pub memory-cleared : (mem' : List ℕ) → mem' ≡ clear_keys d mem → memory_ok d (length mem') ≡ true
-  memory-cleared mem' e = ap (λ (x : List ℕ). memory_ok d (length x)) e ∙ ap (memory_ok d) length-clear_keys ∙ ok
 
   -- ---- the whole
 
@@ -137,12 +127,7 @@ module _ (d : Document) (mem : List ℕ) (ok : memory_ok d (length mem) ≡ true
             (omega (arith, order-size, arena-behind-slots l children, arena-inside l children, names-next l, words-next l));
       }
 
--- test 4 of an editing call: the memory, and a word of scratch for each slot
-module _ (d : Document) (mem scratch : ℕ) (h : buffers_ok d mem scratch ≡ true) where
-  pub buffers-memory : memory_ok d mem ≡ true
-  unfolding buffers_ok
-  buffers-memory = and_left (memory_ok d mem) (leb (scratch_words (limits_of d.limits)) scratch) h
-
-  pub buffers-scratch : d.limits.nodes ≤ scratch
-  unfolding buffers_ok scratch_words
-  buffers-scratch = let z = leb-true (scratch_words (limits_of d.limits)) scratch (and_right (memory_ok d mem) (leb (scratch_words (limits_of d.limits)) scratch) h) in omega arith
+-- what an editing call asks of scratch has a word for each slot
+pub scratch-nodes : (d : Document) (scratch : ℕ) → scratch_words (limits_of d.limits) ≤ scratch → d.limits.nodes ≤ scratch
+unfolding scratch_words
+scratch-nodes d scratch h = omega arith

@@ -61,10 +61,6 @@ module _ (d : Document) (mem : List ℕ) (w : Which) (s : ℕ) where
         short = omega (arith, z.entries w);
       }
 
-  -- the words that are shown for it
-  pub list-shown : (r : Range) → block_of r ≡ range_in (decode d mem) w s → (l : List ℕ) → l ≡ list_of (arena_in d w mem) (block_of r) → l ≡ list_in (decode d mem) w s
-  list-shown r q l e = e ∙ ap (list_of (arena_in d w mem)) q
-
 -- ---- keys for the entries
 
 module _ (d : Document) (mem : List ℕ) (ok : memory_ok d (length mem) ≡ true) (w : Which) where

@@ -1,19 +1,24 @@
 -- `appending::comment::append_comment` meets its contract.
 -- Assumes nothing.
 use mathlib.Core.Path.{refl}
+use borrow.Author.Rules.{rules}
 use Rattle.records.specs.Handles.{word_of}
 use Rattle.model.specs.Calls.{append-comment}
 use Rattle.editing.proofs.Editing.{passed_on, unadmitted, unplanned, admits, performs}
 use Rattle.appending.proofs.comment.append_comment.Goals as goal
 
-pub do_append_comment-requires : goal.do_append_comment-requires
-do_append_comment-requires c = admits (append-comment (word_of c.args.parent) c.args.text.now) c.args.d c.args.mem.now c.in_ok-admit.ensures.ready.undamaged c.in_ok-plan_append_comment.ensures
+pub do_append_comment-id-requires : goal.do_append_comment-id-requires
+do_append_comment-id-requires c = admits (append-comment (word_of c.args.parent) c.args.text.now) c.args.d c.args.mem.now _ c.in_ok-doc.doc.view c.in_ok-doc.ensures.ready c.in_ok-plan_append_comment.ensures
 
-pub returns-in_err-admit : goal.returns-in_err-admit
-returns-in_err-admit c = rw (passed_on _ _ c.from_residual.ensures.1) (unadmitted (append-comment (word_of c.args.parent) c.args.text.now) c.args.d c.args.mem.now c.args.scratch.now _ c.in_err-admit.ensures.result_value _ c.admit.ensures.scratch_after)
+pub returns-in_err-doc : goal.returns-in_err-doc
+returns-in_err-doc c =
+    rw (passed_on _ _ c.from_residual.ensures.1) (unadmitted (append-comment (word_of c.args.parent) c.args.text.now) c.args.d c.args.mem.now c.args.scratch.now _ c.in_err-doc.ensures.result_value _ c.admit.ensures.scratch_after)
 
 pub returns-in_err-plan_append_comment : goal.returns-in_err-plan_append_comment
-returns-in_err-plan_append_comment c = rw (passed_on _ _ c.from_residual-in_err-plan_append_comment.ensures.1) (unplanned (append-comment (word_of c.args.parent) c.args.text.now) c.args.d c.args.mem.now c.args.scratch.now c.in_ok-admit.ensures.result_value _ c.in_err-plan_append_comment.ensures _ c.admit.ensures.scratch_after)
+returns-in_err-plan_append_comment c =
+    rw (passed_on _ _ c.from_residual-in_err-plan_append_comment.ensures.1)
+    (unplanned (append-comment (word_of c.args.parent) c.args.text.now) c.args.d c.args.mem.now c.args.scratch.now c.in_ok-doc.ensures.result_value c.in_ok-doc.doc.view _ c.in_ok-doc.ensures.ready _ c.in_err-plan_append_comment.ensures _ c.admit.ensures.scratch_after)
 
 pub returns : goal.returns
-returns c = performs (append-comment (word_of c.args.parent) c.args.text.now) c.args.d c.args.mem.now c.args.scratch.now c.in_ok-admit.ensures.result_value _ _ _ refl c.do_append_comment.ensures _ c.admit.ensures.scratch_after
+returns c =
+    performs (append-comment (word_of c.args.parent) c.args.text.now) c.args.d c.args.mem.now c.args.scratch.now c.in_ok-doc.ensures.result_value _ _ c.do_append_comment-id.new.lent refl refl refl c.do_append_comment-id.ensures _ (search rules) _ c.admit.ensures.scratch_after

@@ -1,19 +1,24 @@
 -- `appending::instruction::append_pi` meets its contract.
 -- Assumes nothing.
 use mathlib.Core.Path.{refl}
+use borrow.Author.Rules.{rules}
 use Rattle.records.specs.Handles.{word_of}
 use Rattle.model.specs.Calls.{append-pi}
 use Rattle.editing.proofs.Editing.{passed_on, unadmitted, unplanned, admits, performs}
 use Rattle.appending.proofs.instruction.append_pi.Goals as goal
 
-pub do_append_pi-requires : goal.do_append_pi-requires
-do_append_pi-requires c = admits (append-pi (word_of c.args.parent) c.args.target.now c.args.content.now) c.args.d c.args.mem.now c.in_ok-admit.ensures.ready.undamaged c.in_ok-plan_append_pi.ensures
+pub do_append_pi-id-requires : goal.do_append_pi-id-requires
+do_append_pi-id-requires c = admits (append-pi (word_of c.args.parent) c.args.target.now c.args.content.now) c.args.d c.args.mem.now _ c.in_ok-doc.doc.view c.in_ok-doc.ensures.ready c.in_ok-plan_append_pi.ensures
 
-pub returns-in_err-admit : goal.returns-in_err-admit
-returns-in_err-admit c = rw (passed_on _ _ c.from_residual.ensures.1) (unadmitted (append-pi (word_of c.args.parent) c.args.target.now c.args.content.now) c.args.d c.args.mem.now c.args.scratch.now _ c.in_err-admit.ensures.result_value _ c.admit.ensures.scratch_after)
+pub returns-in_err-doc : goal.returns-in_err-doc
+returns-in_err-doc c =
+    rw (passed_on _ _ c.from_residual.ensures.1) (unadmitted (append-pi (word_of c.args.parent) c.args.target.now c.args.content.now) c.args.d c.args.mem.now c.args.scratch.now _ c.in_err-doc.ensures.result_value _ c.admit.ensures.scratch_after)
 
 pub returns-in_err-plan_append_pi : goal.returns-in_err-plan_append_pi
-returns-in_err-plan_append_pi c = rw (passed_on _ _ c.from_residual-in_err-plan_append_pi.ensures.1) (unplanned (append-pi (word_of c.args.parent) c.args.target.now c.args.content.now) c.args.d c.args.mem.now c.args.scratch.now c.in_ok-admit.ensures.result_value _ c.in_err-plan_append_pi.ensures _ c.admit.ensures.scratch_after)
+returns-in_err-plan_append_pi c =
+    rw (passed_on _ _ c.from_residual-in_err-plan_append_pi.ensures.1)
+    (unplanned (append-pi (word_of c.args.parent) c.args.target.now c.args.content.now) c.args.d c.args.mem.now c.args.scratch.now c.in_ok-doc.ensures.result_value c.in_ok-doc.doc.view _ c.in_ok-doc.ensures.ready _ c.in_err-plan_append_pi.ensures _ c.admit.ensures.scratch_after)
 
 pub returns : goal.returns
-returns c = performs (append-pi (word_of c.args.parent) c.args.target.now c.args.content.now) c.args.d c.args.mem.now c.args.scratch.now c.in_ok-admit.ensures.result_value _ _ _ refl c.do_append_pi.ensures _ c.admit.ensures.scratch_after
+returns c =
+    performs (append-pi (word_of c.args.parent) c.args.target.now c.args.content.now) c.args.d c.args.mem.now c.args.scratch.now c.in_ok-doc.ensures.result_value _ _ c.do_append_pi-id.new.lent refl refl refl c.do_append_pi-id.ensures _ (search rules) _ c.admit.ensures.scratch_after

@@ -7,14 +7,15 @@ use Rattle.compaction.proofs.trees.is_top.Goals as goal
 
 pub has_no_parent-requires : goal.has_no_parent-requires
 has_no_parent-requires c =
-    (c.requires.0, even-live c.args.d c.args.mem.now c.args.slot.0 c.requires.1 _ c.generation.ensures c.requires.2 (eq-eqb _ _ c.if-generation-eq0.true))
+    even-live c.args.view.now.document c.args.view.now.words.now c.args.slot.0 c.requires.0 _ c.generation.ensures c.requires.1 (eq-eqb _ _ c.if-generation-eq0.true)
 
 pub returns-then-generation-eq0 : goal.returns-then-generation-eq0
 returns-then-generation-eq0 c =
-    let a = c.args in
-    top-even a.d a.mem.now a.slot.0 c.requires.1 _ c.generation.ensures (even-live a.d a.mem.now a.slot.0 c.requires.1 _ c.generation.ensures c.requires.2 (eq-eqb _ _ c.if-generation-eq0.true)) _ c.has_no_parent.ensures
+    let v = c.args.view.now in
+    let s = c.args.slot.0 in
+    top-even v.document v.words.now s c.requires.0 _ c.generation.ensures (even-live v.document v.words.now s c.requires.0 _ c.generation.ensures c.requires.1 (eq-eqb _ _ c.if-generation-eq0.true)) _ c.has_no_parent.ensures
 
 pub returns-else-generation-eq0 : goal.returns-else-generation-eq0
 returns-else-generation-eq0 c =
     let odd = ne_eqb _ _ c.if-generation-eq0.false in
-    odd ∙ top-odd c.args.d c.args.mem.now c.args.slot.0 c.requires.1 _ c.generation.ensures odd
+    odd ∙ top-odd c.args.view.now.document c.args.view.now.words.now c.args.slot.0 c.requires.0 _ c.generation.ensures odd

@@ -8,7 +8,7 @@ use Rattle.descendants.proofs.list.write_below.Goals as goal
 pub returns-then-resolves : goal.returns-then-resolves
 returns-then-resolves c =
     let a = c.args in
-    let q = same-written (decoded a.view.now) (word_of a.id) _ c.word_of.ensures _ a.out.now _ (c.write_live.ensures.value, c.write_live.ensures.out_after) in
+    let q = same-written (decoded a.view.now) (word_of a.id) _ c.from.ensures _ a.out.now _ (c.write_live.ensures.value, c.write_live.ensures.out_after) in
     record { value = q.0; out_after = q.1 }
 
 pub returns-else-resolves : goal.returns-else-resolves

@@ -5,9 +5,9 @@ use Rattle.edits.proofs.ElementLists.{value-replaceable, value-performed}
 use Rattle.edits.proofs.attributes.replace_attribute.Goals as goal
 
 pub do_replace_text-requires : goal.do_replace_text-requires
-do_replace_text-requires c = value-replaceable c.args.d c.args.mem.now (word_of c.args.element) c.args.namespace.now c.args.local.now c.args.value.now c.requires.admitted (word_of c.args.found) c.requires.local_value
+do_replace_text-requires c = value-replaceable c.args.lent.now.document c.args.lent.now.words.now (word_of c.args.element) c.args.name.namespace.now c.args.name.local.now c.args.value.now c.requires.admitted (word_of c.args.found) c.requires.local_value
 
 pub returns : goal.returns
 returns c =
     let w = c.do_replace_text in
-    value-performed c.args.d c.args.mem.now (word_of c.args.element) c.args.namespace.now c.args.local.now c.args.value.now c.requires.admitted (word_of c.args.found) c.requires.local_value w.result _ w.ensures
+    record { performed = value-performed c.args.lent.now.document c.args.lent.now.words.now (word_of c.args.element) c.args.name.namespace.now c.args.name.local.now c.args.value.now c.requires.admitted (word_of c.args.found) c.requires.local_value w.new.lent.document _ w.ensures.step; reference = w.ensures.reference }

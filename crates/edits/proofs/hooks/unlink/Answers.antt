@@ -8,14 +8,9 @@ use Rattle.edits.proofs.hooks.unlink.Goals as goal
 pub load-requires : goal.load-requires
 load-requires c =
     let a = c.args in
-    (c.requires.node.memory, node-slot a.d a.mem.now a.id (omega (arith, c.well_formed)) c.requires.node)
+    rw c.view.ensures.0 (node-slot a.lent.now.document a.lent.now.words.now a.id (omega (arith, c.well_formed)) c.requires.node)
 
-pub unlink_node-requires : goal.unlink_node-requires
-unlink_node-requires c =
+pub returns-in_default : goal.returns-in_default
+returns-in_default c =
     let a = c.args in
-    (c.requires, sym c.load.ensures ∙ c.in-Some.is)
-
-pub returns-in-None : goal.returns-in-None
-returns-in-None c =
-    let a = c.args in
-    absurd (not_none a.d a.mem.now a.id (omega (arith, c.well_formed)) c.requires.node (sym c.load.ensures ∙ c.in-None.is))
+    absurd (not_none a.lent.now.document a.lent.now.words.now a.id (omega (arith, c.well_formed)) c.requires.node (sym (rw (c.view.ensures.0, c.view.ensures.1) at c.load.ensures) ∙ c.in_default.is))

@@ -5,8 +5,9 @@ use Rattle.edits.proofs.Moving.{admitted-hooked, detach-performed}
 use Rattle.edits.proofs.moves.detach_node.Goals as goal
 
 pub unhook-requires : goal.unhook-requires
-unhook-requires c = admitted-hooked c.args.d c.args.mem.now (word_of c.args.id) c.requires
+unhook-requires c = admitted-hooked c.args.lent.now.document c.args.lent.now.words.now (word_of c.args.id) c.requires
 
 pub returns : goal.returns
 returns c =
-    detach-performed c.args.d c.args.mem.now (word_of c.args.id) c.requires c.unhook.result _ c.unhook.ensures
+    let w = c.unhook in
+    record { performed = detach-performed c.args.lent.now.document c.args.lent.now.words.now (word_of c.args.id) c.requires w.new.lent.document _ w.ensures.step; reference = w.ensures.reference }

@@ -5,8 +5,9 @@ use Rattle.edits.proofs.Moving.{admitted-last, last-performed}
 use Rattle.edits.proofs.moves.move_last.Goals as goal
 
 pub do_reparent-requires : goal.do_reparent-requires
-do_reparent-requires c = admitted-last c.args.d c.args.mem.now (word_of c.args.parent) (word_of c.args.id) c.requires
+do_reparent-requires c = admitted-last c.args.lent.now.document c.args.lent.now.words.now (word_of c.args.parent) (word_of c.args.id) c.requires
 
 pub returns : goal.returns
 returns c =
-    last-performed c.args.d c.args.mem.now (word_of c.args.parent) (word_of c.args.id) c.requires c.do_reparent.result _ c.do_reparent.ensures
+    let w = c.do_reparent in
+    record { performed = last-performed c.args.lent.now.document c.args.lent.now.words.now (word_of c.args.parent) (word_of c.args.id) c.requires w.new.lent.document _ w.ensures.step; reference = w.ensures.reference }

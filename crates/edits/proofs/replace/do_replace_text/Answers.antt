@@ -8,10 +8,11 @@ use Rattle.edits.proofs.Replaced.{replaced-node}
 use Rattle.edits.proofs.replace.do_replace_text.Goals as goal
 
 pub load-requires : goal.load-requires
-load-requires c = (c.requires.undamaged.memory, node-slot c.args.d c.args.mem.now c.args.id (omega (arith, c.well_formed)) (replaced-node c.args.d c.args.mem.now (word_of c.args.id) c.args.text.now c.requires))
+load-requires c =
+    let a = c.args in
+    rw c.view.ensures.0 (node-slot a.lent.now.document a.lent.now.words.now a.id (omega (arith, c.well_formed)) (replaced-node a.lent.now.document a.lent.now.words.now (word_of a.id) a.text.now c.requires))
 
-pub replace_in-requires : goal.replace_in-requires
-replace_in-requires c = (c.requires, sym c.load.ensures ∙ c.in-Some.is)
-
-pub returns-in-None : goal.returns-in-None
-returns-in-None c = absurd (not_none c.args.d c.args.mem.now c.args.id (omega (arith, c.well_formed)) (replaced-node c.args.d c.args.mem.now (word_of c.args.id) c.args.text.now c.requires) (sym c.load.ensures ∙ c.in-None.is))
+pub returns-in_default : goal.returns-in_default
+returns-in_default c =
+    let a = c.args in
+    absurd (not_none a.lent.now.document a.lent.now.words.now a.id (omega (arith, c.well_formed)) (replaced-node a.lent.now.document a.lent.now.words.now (word_of a.id) a.text.now c.requires) (sym (rw (c.view.ensures.0, c.view.ensures.1) at c.load.ensures) ∙ c.in_default.is))

@@ -5,9 +5,9 @@ use Rattle.edits.proofs.Replaced.{set-ready, set-performed}
 use Rattle.edits.proofs.replace.do_set_text.Goals as goal
 
 pub do_replace_text-requires : goal.do_replace_text-requires
-do_replace_text-requires c = set-ready c.args.d c.args.mem.now (word_of c.args.id) c.args.text.now c.requires
+do_replace_text-requires c = set-ready c.args.lent.now.document c.args.lent.now.words.now (word_of c.args.id) c.args.text.now c.requires
 
 pub returns : goal.returns
 returns c =
     let w = c.do_replace_text in
-    set-performed c.args.d c.args.mem.now (word_of c.args.id) c.args.text.now c.requires w.result _ w.ensures
+    record { performed = set-performed c.args.lent.now.document c.args.lent.now.words.now (word_of c.args.id) c.args.text.now c.requires w.new.lent.document _ w.ensures.step; reference = w.ensures.reference }

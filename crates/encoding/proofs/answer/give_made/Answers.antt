@@ -9,7 +9,7 @@ pub returns-in-Ok : goal.returns-in-Ok
 returns-in-Ok c =
     let q = given_both c.args.document.now (made_record c.args.answer) c.args.made.now (made_words c.args.answer) _ _ _ _
     (ap made_record c.in-Ok.is) (ap made_words c.in-Ok.is) c.put_record.ensures
-    (one_word c.args.made.now _ _ c.word_of.ensures c.requires.1) in
+    (one_word c.args.made.now _ _ c.from.ensures c.requires.1) in
     record { value = q.0; document_after = q.1 }
 
 pub returns-in-Err : goal.returns-in-Err

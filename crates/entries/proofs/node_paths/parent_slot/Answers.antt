@@ -4,7 +4,11 @@ use Rattle.entries.proofs.Paths.{parent-none, parent-some}
 use Rattle.entries.proofs.node_paths.parent_slot.Goals as goal
 
 pub returns-then-word-eq0 : goal.returns-then-word-eq0
-returns-then-word-eq0 c = parent-none c.args.d c.args.mem.now c.args.slot c.requires.1 _ c.parent_word-word.ensures c.if-word-eq0.true
+returns-then-word-eq0 c =
+    let v = c.args.view.now in
+    parent-none v.document v.words.now c.args.slot c.requires _ c.parent_word-word.ensures c.if-word-eq0.true
 
 pub returns-else-word-eq0 : goal.returns-else-word-eq0
-returns-else-word-eq0 c = parent-some c.args.d c.args.mem.now c.args.slot c.requires.1 _ c.parent_word-word.ensures c.if-word-eq0.false
+returns-else-word-eq0 c =
+    let v = c.args.view.now in
+    parent-some v.document v.words.now c.args.slot c.requires _ c.parent_word-word.ensures c.if-word-eq0.false

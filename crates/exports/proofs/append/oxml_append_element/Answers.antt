@@ -21,5 +21,5 @@ pub returns : goal.returns
 returns c =
     makes (append-element c.args.parent c.args.namespace.now c.args.local.now) c.args.document.now c.args.memory.now c.args.scratch.now c.args.made.now c.in-Some.d (whole c.args.document.now (length c.args.made.now) 1 _ _ c.lent_record.ensures c.in-Some.is) _ _ _ _ _
     c.append_element-answer.result
-    (by_word (λ (h : ℕ). (append-element h c.args.namespace.now c.args.local.now)) c.args.parent _ c.id_of-id.ensures _ _ _ _ _ _ _ c.append_element-answer.ensures)
+    (by_word (λ (h : ℕ). (append-element h c.args.namespace.now c.args.local.now)) c.args.parent _ c.from-id.ensures _ _ _ _ _ _ _ c.append_element-answer.ensures)
     c.give_made.ensures.value c.give_made.ensures.document_after.0 c.give_made.ensures.document_after.1

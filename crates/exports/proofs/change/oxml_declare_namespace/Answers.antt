@@ -21,5 +21,5 @@ pub returns : goal.returns
 returns c =
     makes (declare-namespace c.args.element c.args.prefix.now c.args.uri.now) c.args.document.now c.args.memory.now c.args.scratch.now c.args.made.now c.in-Some.d (whole c.args.document.now (length c.args.made.now) 1 _ _ c.lent_record.ensures c.in-Some.is) _ _ _ _ _
     c.declare_namespace-answer.result
-    (by_word (λ (h : ℕ). (declare-namespace h c.args.prefix.now c.args.uri.now)) c.args.element _ c.id_of-id.ensures _ _ _ _ _ _ _ c.declare_namespace-answer.ensures)
+    (by_word (λ (h : ℕ). (declare-namespace h c.args.prefix.now c.args.uri.now)) c.args.element _ c.from-id.ensures _ _ _ _ _ _ _ c.declare_namespace-answer.ensures)
     c.give_made.ensures.value c.give_made.ensures.document_after.0 c.give_made.ensures.document_after.1

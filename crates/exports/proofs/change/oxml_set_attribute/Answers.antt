@@ -20,5 +20,5 @@ pub returns : goal.returns
 returns c =
     does (set-attribute c.args.element c.args.namespace.now c.args.local.now c.args.value.now) c.args.document.now c.args.memory.now c.args.scratch.now c.in-Some.d (whole c.args.document.now 0 0 _ _ c.lent_record.ensures c.in-Some.is) _ _ _ _
     c.set_attribute-answer.result
-    (by_word (λ (h : ℕ). (set-attribute h c.args.namespace.now c.args.local.now c.args.value.now)) c.args.element _ c.id_of-id.ensures _ _ _ _ _ _ _ c.set_attribute-answer.ensures)
+    (by_word (λ (h : ℕ). (set-attribute h c.args.namespace.now c.args.local.now c.args.value.now)) c.args.element _ c.from-id.ensures _ _ _ _ _ _ _ c.set_attribute-answer.ensures)
     c.give_done.ensures.value c.give_done.ensures.document_after

@@ -20,5 +20,5 @@ pub returns : goal.returns
 returns c =
     does (set-text c.args.id c.args.text.now) c.args.document.now c.args.memory.now c.args.scratch.now c.in-Some.d (whole c.args.document.now 0 0 _ _ c.lent_record.ensures c.in-Some.is) _ _ _ _
     c.set_text-answer.result
-    (by_word (λ (h : ℕ). (set-text h c.args.text.now)) c.args.id _ c.id_of-id.ensures _ _ _ _ _ _ _ c.set_text-answer.ensures)
+    (by_word (λ (h : ℕ). (set-text h c.args.text.now)) c.args.id _ c.from-id.ensures _ _ _ _ _ _ _ c.set_text-answer.ensures)
     c.give_done.ensures.value c.give_done.ensures.document_after

@@ -21,5 +21,5 @@ pub returns : goal.returns
 returns c =
     does (insert-at c.args.parent c.args.at c.args.child) c.args.document.now c.args.memory.now c.args.scratch.now c.in-Some.d (whole c.args.document.now 0 0 _ _ c.lent_record.ensures c.in-Some.is) _ _ _ _
     c.insert_at-answer.result
-    (by_word (λ (h : ℕ). (insert-at c.args.parent c.args.at h)) c.args.child _ c.id_of-child_id.ensures _ _ _ _ _ _ _ (by_word (λ (h : ℕ). (insert-at h c.args.at (word_of c.id_of-child_id.result))) c.args.parent _ c.id_of-parent_id.ensures _ _ _ _ _ _ _ c.insert_at-answer.ensures))
+    (by_word (λ (h : ℕ). (insert-at c.args.parent c.args.at h)) c.args.child _ c.from-child_id.ensures _ _ _ _ _ _ _ (by_word (λ (h : ℕ). (insert-at h c.args.at (word_of c.from-child_id.result))) c.args.parent _ c.from-parent_id.ensures _ _ _ _ _ _ _ c.insert_at-answer.ensures))
     c.give_done.ensures.value c.give_done.ensures.document_after

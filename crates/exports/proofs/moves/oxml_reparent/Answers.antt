@@ -21,5 +21,5 @@ pub returns : goal.returns
 returns c =
     does (reparent c.args.child c.args.parent) c.args.document.now c.args.memory.now c.args.scratch.now c.in-Some.d (whole c.args.document.now 0 0 _ _ c.lent_record.ensures c.in-Some.is) _ _ _ _
     c.reparent-answer.result
-    (by_word (λ (h : ℕ). (reparent c.args.child h)) c.args.parent _ c.id_of-parent_id.ensures _ _ _ _ _ _ _ (by_word (λ (h : ℕ). (reparent h (word_of c.id_of-parent_id.result))) c.args.child _ c.id_of-child_id.ensures _ _ _ _ _ _ _ c.reparent-answer.ensures))
+    (by_word (λ (h : ℕ). (reparent c.args.child h)) c.args.parent _ c.from-parent_id.ensures _ _ _ _ _ _ _ (by_word (λ (h : ℕ). (reparent h (word_of c.from-parent_id.result))) c.args.child _ c.from-child_id.ensures _ _ _ _ _ _ _ c.reparent-answer.ensures))
     c.give_done.ensures.value c.give_done.ensures.document_after

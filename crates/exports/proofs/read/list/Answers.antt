@@ -22,5 +22,5 @@ returns c =
     let w = which_of c.args.arena in
     shows (list_call w c.args.id) 2 (as_list w) c.args.document.now c.args.memory.now c.args.answer.now c.in-Some.d (whole c.args.document.now (length c.args.answer.now) 2 _ _ c.lent_record.ensures c.in-Some.is) (list_words c.list.result) _ _ _
     (tells-list c.in-Some.d c.args.memory.now w c.list.result)
-    (read_word (list_call w) c.args.id _ c.id_of.ensures _ _ _ c.list.ensures)
+    (read_word (list_call w) c.args.id _ c.from.ensures _ _ _ c.list.ensures)
     c.give_list.ensures

@@ -21,5 +21,5 @@ pub returns : goal.returns
 returns c =
     shows (is-element c.args.id) 1 as_truth c.args.document.now c.args.memory.now c.args.answer.now c.in-Some.d (whole c.args.document.now (length c.args.answer.now) 1 _ _ c.lent_record.ensures c.in-Some.is) (truth_words c.is_element.result) _ _ _
     (tells-truth c.in-Some.d c.args.memory.now c.is_element.result)
-    (read_word (λ (h : ℕ). is-element h) c.args.id _ c.id_of.ensures _ _ _ c.is_element.ensures)
+    (read_word (λ (h : ℕ). is-element h) c.args.id _ c.from.ensures _ _ _ c.is_element.ensures)
     c.give_truth.ensures

@@ -21,5 +21,5 @@ pub returns : goal.returns
 returns c =
     shows (kind-of c.args.id) 8 as_kind c.args.document.now c.args.memory.now c.args.answer.now c.in-Some.d (whole c.args.document.now (length c.args.answer.now) 8 _ _ c.lent_record.ensures c.in-Some.is) (kind_words c.kind.result) _ _ _
     (tells-kind c.in-Some.d c.args.memory.now c.kind.result)
-    (read_word (λ (h : ℕ). kind-of h) c.args.id _ c.id_of.ensures _ _ _ c.kind.ensures)
+    (read_word (λ (h : ℕ). kind-of h) c.args.id _ c.from.ensures _ _ _ c.kind.ensures)
     c.give_kind.ensures

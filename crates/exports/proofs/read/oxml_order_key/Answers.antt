@@ -21,5 +21,5 @@ pub returns : goal.returns
 returns c =
     shows (order-key c.args.id) 2 as_key c.args.document.now c.args.memory.now c.args.answer.now c.in-Some.d (whole c.args.document.now (length c.args.answer.now) 2 _ _ c.lent_record.ensures c.in-Some.is) (key_words c.order_key.result) _ _ _
     (tells-key c.in-Some.d c.args.memory.now c.order_key.result)
-    (read_word (λ (h : ℕ). order-key h) c.args.id _ c.id_of.ensures _ _ _ c.order_key.ensures)
+    (read_word (λ (h : ℕ). order-key h) c.args.id _ c.from.ensures _ _ _ c.order_key.ensures)
     c.give_key.ensures

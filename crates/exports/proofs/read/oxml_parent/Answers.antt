@@ -21,5 +21,5 @@ pub returns : goal.returns
 returns c =
     shows (parent-of c.args.id) 2 as_node c.args.document.now c.args.memory.now c.args.answer.now c.in-Some.d (whole c.args.document.now (length c.args.answer.now) 2 _ _ c.lent_record.ensures c.in-Some.is) (node_words c.parent.result) _ _ _
     (tells-node c.in-Some.d c.args.memory.now c.parent.result)
-    (read_word (λ (h : ℕ). parent-of h) c.args.id _ c.id_of.ensures _ _ _ c.parent.ensures)
+    (read_word (λ (h : ℕ). parent-of h) c.args.id _ c.from.ensures _ _ _ c.parent.ensures)
     c.give_node.ensures

@@ -20,5 +20,5 @@ pub returns : goal.returns
 returns c =
     does (remove c.args.id) c.args.document.now c.args.memory.now c.args.scratch.now c.in-Some.d (whole c.args.document.now 0 0 _ _ c.lent_record.ensures c.in-Some.is) _ _ _ _
     c.remove-answer.result
-    (by_word (λ (h : ℕ). (remove h)) c.args.id _ c.id_of-id.ensures _ _ _ _ _ _ _ c.remove-answer.ensures)
+    (by_word (λ (h : ℕ). (remove h)) c.args.id _ c.from-id.ensures _ _ _ _ _ _ _ c.remove-answer.ensures)
     c.give_done.ensures.value c.give_done.ensures.document_after

@@ -21,5 +21,5 @@ pub returns : goal.returns
 returns c =
     finds (remove-attribute c.args.element c.args.namespace.now c.args.local.now) c.args.document.now c.args.memory.now c.args.scratch.now c.args.found.now c.in-Some.d (whole c.args.document.now (length c.args.found.now) 1 _ _ c.lent_record.ensures c.in-Some.is) _ _ _ _ _
     c.remove_attribute-answer.result
-    (by_word (λ (h : ℕ). (remove-attribute h c.args.namespace.now c.args.local.now)) c.args.element _ c.id_of-id.ensures _ _ _ _ _ _ _ c.remove_attribute-answer.ensures)
+    (by_word (λ (h : ℕ). (remove-attribute h c.args.namespace.now c.args.local.now)) c.args.element _ c.from-id.ensures _ _ _ _ _ _ _ c.remove_attribute-answer.ensures)
     c.give_found.ensures.value c.give_found.ensures.document_after.0 c.give_found.ensures.document_after.1

@@ -16,5 +16,5 @@ returns-in_default c =
 pub returns : goal.returns
 returns c =
     start-given c.args.zone c.args.document.now c.args.memory.now c.args.position.now c.in-Some.d
-    (whole c.args.document.now (length c.args.position.now) 7 _ _ c.lent_record.ensures c.in-Some.is) _ c.id_of-id.ensures _ c.descendants_of-answer.ensures _ _
+    (whole c.args.document.now (length c.args.position.now) 7 _ _ c.lent_record.ensures c.in-Some.is) _ c.from-id.ensures _ c.descendants_of-answer.ensures _ _
     c.give_start.ensures

@@ -16,5 +16,5 @@ returns-in_default c =
 pub returns : goal.returns
 returns c =
     below-given c.args.zone c.args.document.now c.args.memory.now c.args.list.now c.args.answer.now c.in-Some.d
-    (whole c.args.document.now (length c.args.answer.now) 1 _ _ c.lent_record.ensures c.in-Some.is) _ c.id_of-id.ensures _ _ c.list_below-written.ensures _ _
+    (whole c.args.document.now (length c.args.answer.now) 1 _ _ c.lent_record.ensures c.in-Some.is) _ c.from-id.ensures _ _ c.list_below-written.ensures _ _
     c.give_count.ensures

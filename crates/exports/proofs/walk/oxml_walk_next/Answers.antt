@@ -8,7 +8,7 @@ use Rattle.exports.proofs.walk.oxml_walk_next.Goals as goal
 
 pub returns-then-answer-lt2 : goal.returns-then-answer-lt2
 returns-then-answer-lt2 c =
-    next-few c.args.document.now c.args.memory.now c.args.position.now c.args.answer.now (omega arith)
+    rw c.refused.ensures (next-few c.args.document.now c.args.memory.now c.args.position.now c.args.answer.now (omega arith))
 
 pub position_of-at-requires : goal.position_of-at-requires
 position_of-at-requires c =
@@ -20,7 +20,7 @@ give_next-requires c =
 
 pub returns-in_default : goal.returns-in_default
 returns-in_default c =
-    rw c.refused.ensures (next-short c.args.document.now c.args.memory.now c.args.position.now c.args.answer.now _ c.lent_record.ensures c.in_default.is)
+    rw c.refused-in_default.ensures (next-short c.args.document.now c.args.memory.now c.args.position.now c.args.answer.now _ c.lent_record.ensures c.in_default.is)
 
 pub returns : goal.returns
 returns c =

@@ -1,19 +1,16 @@
 -- `freeing::release::push_chars` meets its contract.
 -- Assumes nothing.
-use Rattle.freeing.proofs.Pushed.{nothing-pushed, field-releasable, field-pushed}
+use mathlib.Core.Path.{refl}
+use Rattle.freeing.proofs.Pushed.{nothing-pushed, field-pushed}
 use Rattle.freeing.proofs.release.push_chars.Goals as goal
 
-pub push_slot-requires : goal.push_slot-requires
-push_slot-requires c =
-    (c.requires.0, field-releasable c.args.d c.args.mem.now c.args.field _ c.in-Some.is c.requires.1)
-
-pub returns-in-None : goal.returns-in-None
-returns-in-None c =
+pub returns-in_default : goal.returns-in_default
+returns-in_default c =
     let a = c.args in
-    nothing-pushed a.d a.mem.now a.field c.in-None.is
+    record { step = nothing-pushed a.lent.now.document a.lent.now.words.now a.field c.in_default.is; reference = refl }
 
 pub returns-in-Some : goal.returns-in-Some
 returns-in-Some c =
     let a = c.args in
     let got = c.push_slot in
-    field-pushed a.d a.mem.now a.field _ c.in-Some.is got.result _ got.ensures
+    record { step = field-pushed a.lent.now.document a.lent.now.words.now a.field _ c.in-Some.is got.new.lent.document _ got.ensures.step; reference = got.ensures.reference }

@@ -1,22 +1,21 @@
 -- `freeing::release::push_data` meets its contract.
 -- Assumes nothing.
-use Rattle.edits.proofs.Composed.{step-memory}
-use Rattle.freeing.proofs.Pushed.{first-releasable, second-releasable, data-pushed}
+use mathlib.Core.Path.{◌∙◌}
+use Rattle.freeing.proofs.Pushed.{second-releasable, data-pushed}
 use Rattle.freeing.proofs.release.push_data.Goals as goal
 
-pub push_chars-pushed-requires : goal.push_chars-pushed-requires
-push_chars-pushed-requires c =
-    (c.requires.0, first-releasable c.args.d c.args.mem.now c.args.«data» c.requires.1 _ _ c.first_text-first.ensures c.second_text-second.ensures)
-
-pub push_chars-requires : goal.push_chars-requires
-push_chars-requires c =
+pub push_chars-requires-2 : goal.push_chars-requires-2
+push_chars-requires-2 c =
     let a = c.args in
-    let first = c.push_chars-pushed in
-    (step-memory a.d a.mem.now first.result _ _ first.ensures c.requires.0, second-releasable a.d a.mem.now a.«data» c.requires.1 _ _ c.first_text-first.ensures c.second_text-second.ensures first.result _ first.ensures)
+    let first = c.push_chars in
+    second-releasable a.lent.now.document a.lent.now.words.now a.«data» c.requires _ _ c.first_text-first.ensures c.second_text-second.ensures first.new.lent.document _ first.ensures.step
 
 pub returns : goal.returns
 returns c =
     let a = c.args in
-    let first = c.push_chars-pushed in
-    let second = c.push_chars in
-    data-pushed a.d a.mem.now a.«data» c.requires.1 _ _ c.first_text-first.ensures c.second_text-second.ensures first.result _ first.ensures second.result _ second.ensures
+    let first = c.push_chars in
+    let second = c.push_chars-2 in
+    record {
+      step = data-pushed a.lent.now.document a.lent.now.words.now a.«data» c.requires _ _ c.first_text-first.ensures c.second_text-second.ensures first.new.lent.document _ first.ensures.step second.new.lent.document _ second.ensures.step;
+      reference = second.ensures.reference ∙ first.ensures.reference;
+    }

@@ -1,6 +1,6 @@
 -- `freeing::subtree::free_subtree` meets its contract.
 -- Assumes nothing.
-use mathlib.Core.Path.{◌≡◌}
+use mathlib.Core.Path.{◌≡◌, ◌∙◌}
 use native.Mathlib.Omega.{arith}
 use lib.ListN.{length}
 use Rattle.records.specs.Handles.{word_of}
@@ -10,14 +10,19 @@ use Rattle.freeing.proofs.subtree.free_subtree.Goals as goal
 
 pub reclaim_texts-requires : goal.reclaim_texts-requires
 reclaim_texts-requires c =
-    let f = c.free_nodes-freed in
+    let f = c.free_nodes in
     let a = c.args in
+    let l = a.lent.now in
     let e : length f.new.words ≡ length a.scratch.now = search rules in
-    nodes-reclaimable a.d a.mem.now c.requires.0 (word_of a.id) c.requires.3 f.result _ (f.ensures.step, f.ensures.reclaimable) (length f.new.words) (omega arith)
+    nodes-reclaimable l.document l.words.now (word_of a.id) c.requires.2 f.new.lent.document _ (f.ensures.step.step, f.ensures.reclaimable) (length f.new.words) (omega arith)
 
 pub returns : goal.returns
 returns c =
-    let f = c.free_nodes-freed in
+    let f = c.free_nodes in
     let a = c.args in
+    let l = a.lent.now in
     let t = c.reclaim_texts in
-    subtree-freed a.d a.mem.now c.requires.0 (word_of a.id) c.requires.3 f.result _ (f.ensures.step, f.ensures.reclaimable) t.result _ t.ensures
+    record {
+      step = subtree-freed l.document l.words.now (word_of a.id) c.requires.2 f.new.lent.document _ (f.ensures.step.step, f.ensures.reclaimable) t.new.lent.document _ t.ensures.step;
+      reference = t.ensures.reference ∙ f.ensures.step.reference;
+    }

@@ -1,7 +1,6 @@
 -- `lookup::finding::find_attribute` meets its contract.
 -- Assumes nothing.
-use mathlib.Core.Path.{ap, sym, ◌∙◌}
-use native.Mathlib.Omega.{arith}
+use mathlib.Core.Path.{ap, ◌∙◌}
 use mathlib.Core.Bool.{Bool}
 use Prim.Native.Nat.{ℕ}
 use Rattle.std.proofs.Common.{rules, tests}
@@ -9,23 +8,15 @@ use Rattle.std.proofs.lemmas.Iterator.{YieldsList-from_slice}
 use Rattle.std.proofs.lemmas.Iterator.Consumers.{YieldsList-from_copied, YieldsList-at}
 use Rattle.std.proofs.lemmas.Iterator.Search.{find_from_yields_List}
 use Rattle.words.specs.Lists.{find}
-use Rattle.names.specs.Table.{name}
-use Rattle.model.specs.Kinds.{attributes}
+use Rattle.names.specs.Expanded.{expanded}
 use Rattle.model.specs.Calls.{has_name}
-use Rattle.memory.specs.Decode.{decode}
-use Rattle.lookup.proofs.Found.{list_inside, found_in, found-stale}
+use Rattle.memory.specs.View.{decoded}
 use Rattle.lookup.proofs.Searched.{found_handle}
 use Rattle.lookup.proofs.finding.find_attribute.Goals as goal
 
-pub block_words-requires : goal.block_words-requires
-block_words-requires c = (c.requires.undamaged.memory, list_inside c.args.d c.args.mem.now c.args.element (omega (arith, c.well_formed)) (omega (arith, c.well_formed)) attributes _ (sym c.resolve.ensures ∙ c.in-Some.is) _ c.range_of-block.ensures c.requires.undamaged)
-
-pub returns-in-Some : goal.returns-in-Some
-returns-in-Some c =
-    let p : ℕ → Bool = has_name (decode c.args.d c.args.mem.now) (name c.args.namespace.now c.args.local.now) in
-    let l = c.block_words.result.now in
+pub returns : goal.returns
+returns c =
+    let p : ℕ → Bool = has_name (decoded c.args.doc.now.view) (expanded c.args.name) in
+    let l = c.listed.result.now in
     let e = find_from_yields_List p _ _ c.find.result c.find.ensures.ran (YieldsList-from_copied (YieldsList-at c.copied.ensures.source (YieldsList-from_slice l (cc)))) (λ x b q k. search (rules, tests)) in
-    found_handle p l _ _ e c.map.ensures.cases (λ x y k. search (rules, tests)) ∙ ap (find p) c.block_words.ensures ∙ found_in c.args.d c.args.mem.now c.args.element (omega (arith, c.well_formed)) (omega (arith, c.well_formed)) attributes _ (sym c.resolve.ensures ∙ c.in-Some.is) _ c.range_of-block.ensures p
-
-pub returns-in-None : goal.returns-in-None
-returns-in-None c = found-stale c.args.d c.args.mem.now c.args.element (omega (arith, c.well_formed)) (omega (arith, c.well_formed)) attributes (sym c.resolve.ensures ∙ c.in-None.is) c.requires.element_value
+    found_handle p l _ _ e c.map.ensures.cases (λ x y k. search (rules, tests)) ∙ ap (find p) c.listed.ensures

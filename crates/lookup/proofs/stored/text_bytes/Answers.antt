@@ -4,8 +4,5 @@ use Rattle.memory.specs.Decode.{slot_of}
 use Rattle.lookup.proofs.Shown.{text-told}
 use Rattle.lookup.proofs.stored.text_bytes.Goals as goal
 
-pub text_bytes-requires : goal.text_bytes-requires
-text_bytes-requires c = c.requires.memory
-
 pub returns : goal.returns
-returns c = let a = c.args in text-told a.d a.mem.now (slot_of a.text) _ c.text_bytes.ensures
+returns c = let v = c.args.doc.now.view in text-told v.document v.words.now (slot_of c.args.text) _ c.text_bytes.ensures

@@ -52,9 +52,9 @@ pub returns-then-same_name : goal.returns-then-same_name
 returns-then-same_name c =
     let loop = c.loop-k in
     let a = c.args in
-    let q = whole a.self.limits a.self.counts a.self.words.now a.namespace.now a.local.now loop.k
+    let q = whole a.self.limits a.self.counts a.self.words.now a.name.namespace.now a.name.local.now loop.k
     (found (bytes_at a.self.limits) a.self.counts.names a.self.counts.bytes a.self.words.now (fits a.self.limits a.self.counts a.self.words.now c.requires) c.requires.ends loop.k loop.at (omega arith) loop.invariant.0
-    a.namespace.now a.local.now loop.invariant.1 _ c.same_name.ensures c.if-same_name.true) in
+    a.name.namespace.now a.name.local.now loop.invariant.1 _ c.same_name.ensures c.if-same_name.true) in
     (omega (arith, q), q)
 
 pub loop-k-preserved : goal.loop-k-preserved
@@ -63,13 +63,13 @@ loop-k-preserved c =
     let a = c.args in (
       reached-next (bytes_at a.self.limits) a.self.counts.names a.self.counts.bytes a.self.words.now (fits a.self.limits a.self.counts a.self.words.now c.requires) c.requires.ends loop.k loop.at (omega arith) loop.invariant.0,
       passed (bytes_at a.self.limits) a.self.counts.names a.self.counts.bytes a.self.words.now (fits a.self.limits a.self.counts a.self.words.now c.requires) c.requires.ends loop.k loop.at (omega arith) loop.invariant.0
-          a.namespace.now a.local.now loop.invariant.1 _ c.same_name.ensures c.if-same_name.false,
+          a.name.namespace.now a.name.local.now loop.invariant.1 _ c.same_name.ensures c.if-same_name.false,
     )
 
 pub returns : goal.returns
 returns c =
     let loop = c.loop-k in
     let a = c.args in
-    let q = whole a.self.limits a.self.counts a.self.words.now a.namespace.now a.local.now a.self.counts.names
-    (left_end (bytes_at a.self.limits) a.self.counts.names a.self.counts.bytes a.self.words.now (fits a.self.limits a.self.counts a.self.words.now c.requires) c.requires.ends a.namespace.now a.local.now loop.k (omega arith) (omega arith) loop.invariant.1) in
+    let q = whole a.self.limits a.self.counts a.self.words.now a.name.namespace.now a.name.local.now a.self.counts.names
+    (left_end (bytes_at a.self.limits) a.self.counts.names a.self.counts.bytes a.self.words.now (fits a.self.limits a.self.counts a.self.words.now c.requires) c.requires.ends a.name.namespace.now a.name.local.now loop.k (omega arith) (omega arith) loop.invariant.1) in
     λ h. omega (arith, q)

@@ -30,9 +30,9 @@ module _ (words namespace local : List ℕ) (at middle end : ℕ) (r : Bool) (e 
 pub returns-then-same_bytes : goal.returns-then-same_bytes
 returns-then-same_bytes c =
     let a = c.args in
-    both a.words.now a.namespace.now a.local.now a.at a.middle a.end _ c.same_bytes.ensures _ c.if-same_bytes.true c.same_bytes-then-same_bytes.ensures
+    both a.words.now a.name.namespace.now a.name.local.now a.at a.middle a.end _ c.same_bytes.ensures _ c.if-same_bytes.true c.same_bytes-then-same_bytes.ensures
 
 pub returns-else-same_bytes : goal.returns-else-same_bytes
 returns-else-same_bytes c =
     let a = c.args in
-    other a.words.now a.namespace.now a.local.now a.at a.middle a.end _ c.same_bytes.ensures c.if-same_bytes.false
+    other a.words.now a.name.namespace.now a.name.local.now a.at a.middle a.end _ c.same_bytes.ensures c.if-same_bytes.false

@@ -2,13 +2,13 @@
 -- Assumes nothing.
 use mathlib.Core.Path.{sym, ◌∙◌}
 use Rattle.records.specs.Handles.{word_of}
-use Rattle.memory.specs.Decode.{decode}
+use Rattle.memory.specs.View.{decoded}
 use Rattle.verdicts.proofs.Verdicts.{refused_before, accepted_before}
 use Rattle.verdicts.proofs.Refusing.{append_comment_number}
 use Rattle.plans.proofs.appends.plan_append_comment.Goals as goal
 
 pub returns-in_err-check_append_comment : goal.returns-in_err-check_append_comment
-returns-in_err-check_append_comment c = let s = c.args in refused_before _ _ _ _ c.from_residual.ensures.1 c.in_err-check_append_comment.ensures ∙ sym (append_comment_number (decode s.d s.mem.now) (word_of s.parent) s.text.now)
+returns-in_err-check_append_comment c = let s = c.args in refused_before _ _ _ _ c.from_residual.ensures.1 c.in_err-check_append_comment.ensures ∙ sym (append_comment_number (decoded s.doc.now.view) (word_of s.parent) s.text.now)
 
 pub returns : goal.returns
-returns c = let s = c.args in accepted_before _ _ _ c.in_ok-check_append_comment.ensures c.text_node_fits.ensures ∙ sym (append_comment_number (decode s.d s.mem.now) (word_of s.parent) s.text.now)
+returns c = let s = c.args in accepted_before _ _ _ c.in_ok-check_append_comment.ensures c.text_node_fits.ensures ∙ sym (append_comment_number (decoded s.doc.now.view) (word_of s.parent) s.text.now)

@@ -2,13 +2,13 @@
 -- Assumes nothing.
 use mathlib.Core.Path.{sym, ◌∙◌}
 use Rattle.records.specs.Handles.{word_of}
-use Rattle.memory.specs.Decode.{decode}
+use Rattle.memory.specs.View.{decoded}
 use Rattle.verdicts.proofs.Verdicts.{refused_before, accepted_before}
 use Rattle.verdicts.proofs.Refusing.{append_element_number}
 use Rattle.plans.proofs.appends.plan_append_element.Goals as goal
 
 pub returns-in_err-check_append_element : goal.returns-in_err-check_append_element
-returns-in_err-check_append_element c = let s = c.args in refused_before _ _ _ _ c.from_residual.ensures.1 c.in_err-check_append_element.ensures ∙ sym (append_element_number (decode s.d s.mem.now) (word_of s.parent) s.namespace.now s.local.now)
+returns-in_err-check_append_element c = let s = c.args in refused_before _ _ _ _ c.from_residual.ensures.1 c.in_err-check_append_element.ensures ∙ sym (append_element_number (decoded s.doc.now.view) (word_of s.parent) s.name.namespace.now s.name.local.now)
 
 pub returns : goal.returns
-returns c = let s = c.args in accepted_before _ _ _ c.in_ok-check_append_element.ensures c.element_fits.ensures ∙ sym (append_element_number (decode s.d s.mem.now) (word_of s.parent) s.namespace.now s.local.now)
+returns c = let s = c.args in accepted_before _ _ _ c.in_ok-check_append_element.ensures c.element_fits.ensures ∙ sym (append_element_number (decoded s.doc.now.view) (word_of s.parent) s.name.namespace.now s.name.local.now)

@@ -11,8 +11,8 @@ use Rattle.reading.proofs.node.first_element.Goals as goal
 pub returns-then-shows_element : goal.returns-then-shows_element
 returns-then-shows_element c =
     let p = shows_element (decoded c.args.view.now) in
-    ap node (found-here p _ _ c.loop-word.invariant c.loop-word-test.true _ c.id_of-id.ensures _ c.shows_element.ensures c.if-shows_element.true ∙ ap (find p) c.block_words-word-items.ensures)
+    ap node (found-here p _ _ c.loop-word.invariant c.loop-word-test.true _ c.from-id.ensures _ c.shows_element.ensures c.if-shows_element.true ∙ ap (find p) c.block_words-word-items.ensures)
 
 pub loop-word-preserved : goal.loop-word-preserved
 loop-word-preserved c =
-    found-later (shows_element (decoded c.args.view.now)) _ _ c.loop-word.invariant c.loop-word-test.true _ c.id_of-id.ensures _ c.shows_element.ensures c.if-shows_element.false
+    found-later (shows_element (decoded c.args.view.now)) _ _ c.loop-word.invariant c.loop-word-test.true _ c.from-id.ensures _ c.shows_element.ensures c.if-shows_element.false

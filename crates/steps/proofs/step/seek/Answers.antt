@@ -14,9 +14,9 @@ returns-then-word-at c =
 pub returns-in-None : goal.returns-in-None
 returns-in-None c =
     let a = c.args in
-    seek-top (decoded a.view.now) a.at a.word a.room c.if-word-at.false _ c.id_of.ensures (ap handle_of (sym c.in-None.is) ∙ c.live_shown_parent.ensures)
+    seek-top (decoded a.view.now) a.at a.word a.room c.if-word-at.false _ c.from.ensures (ap handle_of (sym c.in-None.is) ∙ c.live_shown_parent.ensures)
 
 pub returns-in-Some : goal.returns-in-Some
 returns-in-Some c =
     let a = c.args in
-    seek-up (decoded a.view.now) a.at a.word a.room c.if-word-at.false _ c.id_of.ensures _ (ap handle_of (sym c.in-Some.is) ∙ c.live_shown_parent.ensures) _ c.seek_under.ensures
+    seek-up (decoded a.view.now) a.at a.word a.room c.if-word-at.false _ c.from.ensures _ (ap handle_of (sym c.in-Some.is) ∙ c.live_shown_parent.ensures) _ c.seek_under.ensures

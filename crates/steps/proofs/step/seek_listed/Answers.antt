@@ -28,10 +28,10 @@ pub returns-then-k-len : goal.returns-then-k-len
 returns-then-k-len c =
     let a = c.args in
     let v = a.view.now in
-    under_at v.document v.words.now a.at a.word a.room a.parent _ refl c.requires.1 v.fits (block_of c.live_shown_block-block.result) c.live_shown_block-block.ensures _ _ c.hint_for.ensures c.hinted_index-k.ensures (omega arith) _ c.word_of-node.ensures (omega arith) _ c.visit_entry.ensures
+    under_at v.document v.words.now a.at a.word a.room a.parent _ refl c.requires.1 v.fits (block_of c.live_shown_block-block.result) c.live_shown_block-block.ensures _ _ c.hint_for.ensures c.hinted_index-k.ensures (omega arith) _ c.from-node.ensures (omega arith) _ c.visit_entry.ensures
 
 pub returns-else-k-len : goal.returns-else-k-len
 returns-else-k-len c =
     let a = c.args in
     let v = a.view.now in
-    under-above v.document v.words.now a.at a.word a.room a.parent _ refl c.requires.1 v.fits (block_of c.live_shown_block-block.result) c.live_shown_block-block.ensures _ _ c.hint_for.ensures c.hinted_index-k.ensures (omega arith) _ c.word_of-node.ensures (omega arith)
+    under-above v.document v.words.now a.at a.word a.room a.parent _ refl c.requires.1 v.fits (block_of c.live_shown_block-block.result) c.live_shown_block-block.ensures _ _ c.hint_for.ensures c.hinted_index-k.ensures (omega arith) _ c.from-node.ensures (omega arith)

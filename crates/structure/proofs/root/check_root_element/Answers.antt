@@ -5,16 +5,20 @@ use Rattle.structure.proofs.root.check_root_element.Goals as goal
 
 pub block_of-block-requires : goal.block_of-block-requires
 block_of-block-requires c =
-    (c.requires.mem_value, root-live c.args.d c.args.mem.now c.requires.mem_value_2.0)
+    let v = c.args.view.now in
+    root-live v.document v.words.now c.requires.0
 
 pub block_words-entries-requires : goal.block_words-entries-requires
 block_words-entries-requires c =
-    (c.requires.mem_value, root-inside c.args.d c.args.mem.now c.requires.mem_value_2.0 c.block_of-block.result c.block_of-block.ensures c.requires.mem_value c.requires.mem_value_2.1)
+    let v = c.args.view.now in
+    root-inside v.document v.words.now c.requires.0 c.block_of-block.result c.block_of-block.ensures v.fits c.requires.1
 
 pub count_elements-requires : goal.count_elements-requires
 count_elements-requires c =
-    (c.requires.mem_value, rw c.block_words-entries.ensures (root-listed c.args.d c.args.mem.now c.requires.mem_value_2.0 c.block_of-block.result c.block_of-block.ensures c.requires.mem_value_2.2))
+    let v = c.args.view.now in
+    rw c.block_words-entries.ensures (root-listed v.document v.words.now c.requires.0 c.block_of-block.result c.block_of-block.ensures c.requires.2)
 
 pub returns : goal.returns
 returns c =
-    root-elements c.args.d c.args.mem.now c.requires.mem_value_2.0 c.block_of-block.result c.block_of-block.ensures _ (rw c.block_words-entries.ensures at c.count_elements.ensures)
+    let v = c.args.view.now in
+    root-elements v.document v.words.now c.requires.0 c.block_of-block.result c.block_of-block.ensures _ (rw c.block_words-entries.ensures at c.count_elements.ensures)

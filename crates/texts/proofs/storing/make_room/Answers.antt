@@ -1,20 +1,21 @@
 -- `texts::storing::make_room` meets its contract.
 -- Assumes nothing.
 use mathlib.Core.Path.{◌≡◌, sym, ap, ◌∙◌}
-use mathlib.Core.List.{List}
+use mathlib.Core.List.{List, map}
 use Prim.Native.Nat.{ℕ, ◌+◌, ◌-◌, ◌≤◌, ◌<◌}
 use native.Mathlib.Omega.{arith}
-use lib.ListN.{get_or}
+use lib.ListN.{length, get_or, length-map}
+use borrow.Rule.Slice.PartMut.{put_mid}
 use Rattle.std.specs.List.{copy_within}
 use Rattle.words.specs.Parts.{part, put}
-use Rattle.words.proofs.Parts.{copied}
+use Rattle.words.proofs.Parts.{copied, length_part, put_back}
 use Rattle.words.specs.declared.ends.Place.{Place}
-use Rattle.words.specs.Ends.{start_of, length_of}
+use Rattle.words.specs.Ends.{start_of, length_of, moved_end}
 use Rattle.texts.specs.Words.{bytes_at, Counted, start_at, Movable, ends_moved, bytes_moved, roomed}
 use Rattle.texts.specs.declared.TextLimits.{TextLimits}
 use Rattle.texts.specs.declared.TextCounts.{TextCounts}
 use Rattle.texts.proofs.Words.{text-rises, text-within}
-use Rattle.texts.proofs.Written.{ends-movable, roomed-same}
+use Rattle.texts.proofs.Written.{size-bytes, ends-movable, roomed-same}
 use Rattle.texts.proofs.storing.make_room.Goals as goal
 
 module _ (limits : TextLimits) (counts : TextCounts) (words : List ℕ) (slot start : ℕ) (h : Counted limits counts words) (m : slot < counts.slots)
@@ -45,14 +46,21 @@ module _ (limits : TextLimits) (counts : TextCounts) (words : List ℕ) (slot st
         ∙ (λ i. put (bytes_at limits + e i + len) (part (bytes_at limits + e i + held i) (counts.bytes - e i - held i) words) words)
 
     movable : counts.bytes + len ≤ limits.bytes + length_of words slot → limits.bytes < 18446744073709551616 → (moved : List ℕ) → Copied moved
-        → Movable moved slot (counts.slots - slot) (get_or words slot 0 - start) len
+        → Movable (part slot (counts.slots - slot) moved) (get_or words slot 0 - start) len
     movable f w moved q = rw (bytes-moved moved q, held) (ends-movable limits counts words h slot m len f w)
 
-    done : (moved after : List ℕ) → Copied moved
-        → after ≡ ends_moved moved slot (counts.slots - slot) (get_or words slot 0 - start) len → after ≡ roomed limits counts words slot len
-    unfolding roomed
-    done moved after q g =
-        g ∙ (λ i. ends_moved (bytes-moved moved q i) slot (counts.slots - slot) (held i) len)
+    done : (moved ends : List ℕ) → Copied moved → counts.bytes + len ≤ limits.bytes + length_of words slot
+        → ends ≡ map (moved_end (get_or words slot 0 - start) len) (part slot (counts.slots - slot) moved)
+        → put_mid slot (counts.slots - slot) moved ends ≡ roomed limits counts words slot len
+    unfolding roomed ends_moved
+    done moved ends q f g =
+        let size : length moved ≡ length words = ap length (bytes-moved moved q) ∙ size-bytes limits counts words h slot m len f in
+        let count : length ends ≡ counts.slots - slot =
+        ap length g ∙ length-map (part slot (counts.slots - slot) moved) (moved_end (get_or words slot 0 - start) len)
+        ∙ length_part moved slot (counts.slots - slot) (omega (arith, size, h.size, h.slots)) in
+        put_back moved slot ends (counts.slots - slot) count
+        ∙ ap (λ (vs : List ℕ). put slot vs moved) g
+        ∙ (λ i. ends_moved (bytes-moved moved q i) slot (counts.slots - slot) (held i) len)
 
     none-moved : get_or words slot 0 - start ≡ len → words ≡ roomed limits counts words slot len
     none-moved q = sym (roomed-same limits counts words h slot m len (sym held ∙ q))
@@ -94,16 +102,18 @@ copy_within-requires-clause-dest_in_bounds c =
     omega (arith, begins a.limits a.counts a.words.now a.slot.0 told.result c.requires.0 c.requires.1 told.ensures, held a.limits a.counts a.words.now a.slot.0 told.result c.requires.0 c.requires.1 told.ensures)
 
 pub move_ends-requires : goal.move_ends-requires
+unfolding part
 move_ends-requires c =
     let a = c.args in
     let told = c.piece_start-start in
     movable a.limits a.counts a.words.now a.slot.0 told.result c.requires.0 c.requires.1 told.ensures a.len c.requires.2 (omega arith) _ c.copy_within.ensures.after
 
 pub returns-then-old-len : goal.returns-then-old-len
+unfolding part
 returns-then-old-len c =
     let a = c.args in
     let told = c.piece_start-start in
-    record { value = room a.limits a.counts a.words.now a.slot.0 told.result c.requires.0 c.requires.1 told.ensures; words_after = done a.limits a.counts a.words.now a.slot.0 told.result c.requires.0 c.requires.1 told.ensures a.len _ _ c.copy_within.ensures.after c.move_ends.ensures }
+    record { value = room a.limits a.counts a.words.now a.slot.0 told.result c.requires.0 c.requires.1 told.ensures; words_after = done a.limits a.counts a.words.now a.slot.0 told.result c.requires.0 c.requires.1 told.ensures a.len _ _ c.copy_within.ensures.after c.requires.2 c.move_ends.ensures }
 
 pub returns-else-old-len : goal.returns-else-old-len
 returns-else-old-len c =

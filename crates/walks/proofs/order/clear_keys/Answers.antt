@@ -6,4 +6,6 @@ use Rattle.walks.proofs.order.clear_keys.Goals as goal
 
 pub returns : goal.returns
 returns c =
-    c.clear_order.ensures ∙ keys-cleared c.args.d c.args.mem.now c.requires
+    let l = c.args.lent.now in
+    let clear = c.clear_order.ensures in
+    record { record_is = clear.record_is; words_are = clear.words_are ∙ keys-cleared l.document l.words.now l.fits; reference = clear.reference }

@@ -1,27 +1,26 @@
 -- `walks::order::renew_order` meets its contract.
 -- Assumes nothing.
+use mathlib.Core.Path.{ap, ◌∙◌}
 use lib.ListN.{length}
-use Rattle.walks.proofs.Cleared.{buffers-memory, buffers-scratch, memory-cleared, walkable-cleared, order-renewed, decode-renewed}
+use Rattle.layout.specs.Record.{renewed}
+use Rattle.walks.proofs.Cleared.{scratch-nodes, walkable-cleared, order-renewed, decode-renewed}
 use Rattle.walks.proofs.order.renew_order.Goals as goal
-
-pub clear_keys-requires : goal.clear_keys-requires
-clear_keys-requires c =
-    buffers-memory c.args.d (length c.args.mem.now) (length c.args.scratch.now) c.requires.0
 
 pub number_tree-requires : goal.number_tree-requires
 number_tree-requires c =
-    let d = c.args.d in
-    let mem = c.args.mem.now in
-    let room = length c.args.scratch.now in
-    let ok = buffers-memory d (length mem) room c.requires.0 in
-    let e = c.clear_keys.ensures in
-    (memory-cleared d mem ok _ e, buffers-scratch d (length mem) room c.requires.0, walkable-cleared d mem ok c.requires.1 _ e)
+    let l = c.args.lent.now in
+    let clear = c.clear_keys.ensures in
+    rw clear.record_is (scratch-nodes l.document (length c.args.scratch.now) c.requires.0, walkable-cleared l.document l.words.now l.fits c.requires.1 _ clear.words_are)
 
 pub returns : goal.returns
 returns c =
-    let d = c.args.d in
-    let mem = c.args.mem.now in
-    let ok = buffers-memory d (length mem) (length c.args.scratch.now) c.requires.0 in
-    let e = c.renewed.ensures in
-    let q = order-renewed d mem ok _ _ c.clear_keys.ensures c.number_tree.ensures in
-    record { mem_after = decode-renewed d mem ok _ _ e q; value = (e, q) }
+    let l = c.args.lent.now in
+    let clear = c.clear_keys.ensures in
+    let tree = c.number_tree.ensures in
+    let put = c.put_record.ensures in
+    let e = put.record_is ∙ c.renewed.ensures ∙ ap renewed (tree.record_is ∙ clear.record_is) in
+    let q = put.words_are ∙ order-renewed l.document l.words.now l.fits _ _ clear.words_are (rw clear.record_is at tree.words_are) in
+    record {
+      document_after = decode-renewed l.document l.words.now l.fits _ _ e q;
+      lent_after = record { record_is = e; words_are = q; reference = put.reference ∙ tree.reference ∙ clear.reference };
+    }

@@ -5,25 +5,9 @@ use native.Mathlib.Omega.{arith}
 use lib.ListN.{get_or}
 use Rattle.words.proofs.Parts.{lent}
 use Rattle.entries.specs.Entering.{words_enter}
-use Rattle.entries.proofs.Marks.{passing-none, passing-next, passing-not, passing-all}
+use Rattle.entries.proofs.Marks.{passing-next, passing-not, passing-all}
 use Rattle.entries.proofs.Counting.{block-of}
 use Rattle.entries.proofs.node_lists.Owner.count_list.Goals as goal
-
-pub bounds-self-at : goal.bounds-self-at
-bounds-self-at c = omega (arith, c.requires.at_in_bounds.0)
-
-pub overflow_add-start : goal.overflow_add-start
-overflow_add-start c = omega (arith, c.requires.at_in_bounds.1)
-
-pub bounds-self-at-2 : goal.bounds-self-at-2
-bounds-self-at-2 c = omega (arith, c.requires.at_in_bounds.0)
-
-pub loop-entry-init : goal.loop-entry-init
-loop-entry-init c = passing-none _ _ _ _ _
-
-pub count_entry-requires : goal.count_entry-requires
-count_entry-requires c =
-    omega (arith, c.requires.marks_in_bounds, c.loop-entry.invariant.same)
 
 pub loop-entry-preserved : goal.loop-entry-preserved
 loop-entry-preserved c =

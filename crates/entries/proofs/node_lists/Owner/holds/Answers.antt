@@ -5,20 +5,8 @@ use native.Mathlib.Omega.{arith}
 use Rattle.entries.proofs.EntryWords.{current-made, entry-current, entry-stale}
 use Rattle.entries.proofs.node_lists.Owner.holds.Goals as goal
 
-pub current_word-requires : goal.current_word-requires
-current_word-requires c = omega (arith, c.args.self.inside)
-
-pub overflow_mul-at : goal.overflow_mul-at
-overflow_mul-at c = omega (arith, c.args.self.inside)
-
-pub overflow_add-at : goal.overflow_add-at
-overflow_add-at c = omega (arith, c.args.self.inside)
-
 pub has_parent-requires : goal.has_parent-requires
 has_parent-requires c = omega (arith, c.args.self.inside, current-made c.args.self.made c.args.self.mem.now c.args.entry (sym c.current_word.ensures ∙ c.if-current_word.true))
-
-pub offset_bounds-self-at : goal.offset_bounds-self-at
-offset_bounds-self-at c = omega (arith, c.args.self.inside, current-made c.args.self.made c.args.self.mem.now c.args.entry (sym c.current_word.ensures ∙ c.if-current_word.true))
 
 pub bounds-self-at : goal.bounds-self-at
 bounds-self-at c = omega (arith, c.args.self.inside, current-made c.args.self.made c.args.self.mem.now c.args.entry (sym c.current_word.ensures ∙ c.if-current_word.true))

@@ -1,9 +1,0 @@
--- `entries::nodes::parent_of` meets its contract.
--- Assumes nothing.
-use native.Mathlib.Omega.{arith}
-use Rattle.entries.proofs.Words.{live-narrow}
-use Rattle.entries.proofs.nodes.parent_of.Goals as goal
-
-pub overflow_cast-s : goal.overflow_cast-s
-overflow_cast-s c =
-    omega (arith, live-narrow c.args.d c.args.mem.now c.requires.0 c.args.s c.requires.1)

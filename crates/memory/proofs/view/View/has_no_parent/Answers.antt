@@ -1,0 +1,13 @@
+-- `memory::view::View::has_no_parent` meets its contract.
+-- Assumes nothing.
+use native.Mathlib.Omega.{arith}
+use Rattle.memory.proofs.Words.{live-below, parent-absent}
+use Rattle.memory.proofs.view.View.has_no_parent.Goals as goal
+
+pub record_word-requires : goal.record_word-requires
+record_word-requires c =
+    (live-below c.args.self.now.document c.args.self.now.words.now c.args.slot.0 c.requires, omega arith)
+
+pub returns : goal.returns
+returns c =
+    parent-absent c.args.self.now.document c.args.self.now.words.now c.args.slot.0 c.requires _ c.record_word.ensures
