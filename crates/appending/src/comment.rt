@@ -14,7 +14,7 @@ use plans::appends::plan_append_comment;
 use records::NodeId;
 
 // Rules out a comment with two hyphens in a row, and a node before the last child.
-// Stays: one call for it and `append_text` would be given the plan, the step and, in its clause, the call; each is these three lines.
+// Stays: one call for it and `append_text` would be given the plan, the step and, in its clause, the call, which are all that it says.
 pub fn append_comment(
     d: Document,
     mem: &mut [u64],

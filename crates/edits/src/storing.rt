@@ -20,6 +20,7 @@ pub struct StoredTexts {
 }
 
 // The pool's field as a node's.
+// Stays: tried without; what reads the slot tells the check that its number has 32 bits.
 fn chars_of(field: Option<TextSlot>) -> Option<TextSlot>
     ensures { (slot_of result ≡ field_of field) × CharsFit result }
 {

@@ -36,7 +36,13 @@ impl Lent<'_> {
     ghost use Rattle.memory.specs.Lent.{Becomes};
 
     // An insertion into a block of an arena. None where the arena has no room.
-    fn insert_block(&mut self, arena: Arena, block: Range, at: usize, id: u64) -> Option<Inserted>
+    pub fn insert_block(
+        &mut self,
+        arena: Arena,
+        block: Range,
+        at: usize,
+        id: u64,
+    ) -> Option<Inserted>
         requires { Held (arena_part self.old.document (which_of arena) self.old.words.now) ((limits_of self.old.document.limits).entries (which_of arena)) (arena_used self.old.document (which_of arena)) block.start block.len }
         ensures value { result ≡ insert_answer (arena_in self.old.document (which_of arena) self.old.words.now) (block_of block) at id }
         ensures lent_after { Becomes self.old self.new self.old.document (put_arena self.old.document (which_of arena) (insert_words (arena_part self.old.document (which_of arena) self.old.words.now) (arena_in self.old.document (which_of arena) self.old.words.now) (block_of block) at id) self.old.words.now) }
@@ -49,7 +55,7 @@ impl Lent<'_> {
     }
 
     // A removal from a block of an arena, with the block's length then.
-    fn drop_block(&mut self, arena: Arena, block: Range, id: u64) -> usize
+    pub fn drop_block(&mut self, arena: Arena, block: Range, id: u64) -> usize
         requires { Held (arena_part self.old.document (which_of arena) self.old.words.now) ((limits_of self.old.document.limits).entries (which_of arena)) (arena_used self.old.document (which_of arena)) block.start block.len }
         ensures value { result ≡ (removed (arena_in self.old.document (which_of arena) self.old.words.now) (block_of block) id).block.len }
         ensures lent_after { Becomes self.old self.new self.old.document (put_arena self.old.document (which_of arena) (arena_words (removed (arena_in self.old.document (which_of arena) self.old.words.now) (block_of block) id).arena) self.old.words.now) }

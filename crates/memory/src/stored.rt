@@ -64,7 +64,7 @@ pub fn text_field(data: NodeData) -> Option<TextSlot>
 
 impl<'a> View<'a> {
     // The words of the pool.
-    fn texts_words(&self) -> &'a [u64]
+    pub fn texts_words(&self) -> &'a [u64]
         ensures { result.now ≡ texts_part self.now.document self.now.words.now }
     {
         &self.words[texts_range(self.document.limits)]
@@ -84,7 +84,7 @@ impl<'a> View<'a> {
     }
 
     // The words of the table.
-    fn names_words(&self) -> &'a [u64]
+    pub fn names_words(&self) -> &'a [u64]
         ensures { result.now ≡ names_part self.now.document self.now.words.now }
     {
         &self.words[names_range(self.document.limits)]
