@@ -1,6 +1,6 @@
 /*
  * An XML tree over lent memory: the proved calls, for C and C++.
- * Link target/staticlib/libexports.a, which `bindings/build.sh` writes. It needs memcpy, memmove and memset alone.
+ * Link target/staticlib/libexports.a, which `bindings/build.sh` writes. It needs memcpy and memset alone.
  *
  * A slice is two arguments, a pointer and a length in elements. The pointer is not null, also where the length is 0, and is aligned for
  * its elements; two slices of one call do not overlap, except that slices which are only read (const) may.

@@ -36,7 +36,7 @@ fn insert_in_place(ids: &mut [u64], block: Block, at: usize, id: u64)
     ensures { ids.new ≡ put block.start (insert_at at id (part block.start block.len ids.old)) ids.old }
 {
     let split = block.start + at;
-    ids.copy_within(split..block.start + block.len, split + 1);
+    words::copy(ids, split, block.len - at, split + 1);
     ids[split] = id;
 }
 
@@ -112,7 +112,7 @@ fn remove_in_place(ids: &mut [u64], block: Block, at: usize)
     ensures { ids.new ≡ put block.start (remove_at at (part block.start block.len ids.old)) ids.old }
 {
     let hole = block.start + at;
-    ids.copy_within(hole + 1..block.start + block.len, hole);
+    words::copy(ids, hole + 1, block.len - at - 1, hole);
 }
 
 // Takes id out of the block, if it is there, and returns the block's length then. The block's start stays.

@@ -9,7 +9,6 @@ ghost use Rattle.exports.specs.Contract.{slot_told, shown_to, entries_told, Expo
 use crate::list::name_id;
 use encoding::record::lent_record;
 use layout::{Arena, Document};
-use names::NamePart;
 use records::Range;
 use records::decode::chars_of;
 
@@ -18,7 +17,7 @@ fn give(words: &[u64], out: &mut [u64]) -> u64
 {
     let n = words.len();
     if n <= out.len() {
-        out[..n].copy_from_slice(words);
+        words::write_words(out, 0, words);
     }
     n as u64
 }
@@ -93,7 +92,7 @@ pub fn oxml_namespace_bytes(document: &[u64], memory: &[u64], number: u64, out: 
         return 0;
     };
     give(
-        reading::name::name_bytes(d, memory, name_id(number), NamePart::Namespace),
+        reading::name::namespace_bytes(d, memory, name_id(number)),
         out,
     )
 }
@@ -105,10 +104,7 @@ pub fn oxml_local_bytes(document: &[u64], memory: &[u64], number: u64, out: &mut
     let Some(d) = lent_record(document, 0, 0) else {
         return 0;
     };
-    give(
-        reading::name::name_bytes(d, memory, name_id(number), NamePart::Local),
-        out,
-    )
+    give(reading::name::local_bytes(d, memory, name_id(number)), out)
 }
 
 // The order words of the slots made. Rules out those of slots that were never made.

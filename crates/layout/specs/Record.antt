@@ -1,5 +1,4 @@
--- The record of a document with some of its fields replaced, and of a document that holds next to nothing. A definition has no record update: each lists the
--- fields.
+-- The record of a document with some of its fields replaced, and of a document that holds next to nothing. Each definition lists the fields.
 use Rattle.std.specs.Prelude.{Bool, true, false, ℕ}
 use Rattle.texts.specs.declared.TextCounts.{TextCounts}
 use Rattle.names.specs.declared.NameCounts.{NameCounts}

@@ -1,7 +1,9 @@
-// The words of a line, and what a word says: a number, a handle, bytes. No document is known here.
+// The words of a line, and what a word says: a number, a handle, bytes; and bytes that are written. No document is known here.
 #![tactic(auto)]
 
 ghost use Rattle.std.specs.Prelude.{◌≡◌, ◌<◌, ◌≤◌, IfSome, length};
+
+pub mod write;
 
 use records::NodeId;
 

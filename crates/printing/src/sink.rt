@@ -1,6 +1,7 @@
 // What waits to be written, and how handles and bytes are written.
 ghost use Rattle.std.specs.Prelude.{◌≤◌, length};
 
+use lines::write::put_bytes;
 use records::{NodeId, Range};
 use std::fmt;
 
@@ -32,8 +33,7 @@ impl fmt::Write for Sink<'_> {
         }
         let end = self.waiting + text.len();
         if end <= self.bytes.len() {
-            self.bytes[self.waiting..end].copy_from_slice(text.as_bytes());
-            self.waiting = end;
+            self.waiting = put_bytes(self.bytes, self.waiting, text.as_bytes());
         } else {
             io::write_all(1, text.as_bytes());
         }

@@ -2,6 +2,7 @@
 ghost use Rattle.std.specs.Prelude.{◌≡◌, true, false, MatchResult};
 ghost use Rattle.reading.specs.Contract.{nodes_ok};
 
+use crate::nodes::nodes_ok;
 use layout::Document;
 use memory::view::View;
 use model::Refusal;
@@ -10,9 +11,11 @@ use model::Refusal;
 pub fn listing_view<'a>(d: Document, mem: &'a [u64], list: &[u64]) -> Result<View<'a>, Refusal>
     ensures { MatchResult result (λ view. (nodes_ok d mem.now list.now ≡ true) × (view.document ≡ d) × (view.words.now ≡ mem.now)) (λ why. (nodes_ok d mem.now list.now ≡ false) × (why ≡ Refusal.BadBuffers)) }
 {
-    let view = View::of(d, mem)?;
-    if d.limits.nodes <= list.len() {
-        Ok(view)
+    if nodes_ok(d, mem.len(), list.len()) {
+        Ok(View {
+            document: d,
+            words: mem,
+        })
     } else {
         Err(Refusal::BadBuffers)
     }

@@ -28,3 +28,17 @@ pub fn name_bytes(d: Document, mem: &[u64], number: NameId, part: NamePart) -> &
         Err(_) => &[],
     }
 }
+
+// The namespace of a name. Rules out its local part, and bytes past those used.
+pub fn namespace_bytes(d: Document, mem: &[u64], number: NameId) -> &[u64]
+    ensures { result.now ≡ name_bytes d mem.now number.0 0 }
+{
+    name_bytes(d, mem, number, NamePart::Namespace)
+}
+
+// Its local part. Rules out its namespace, and bytes past those used.
+pub fn local_bytes(d: Document, mem: &[u64], number: NameId) -> &[u64]
+    ensures { result.now ≡ name_bytes d mem.now number.0 1 }
+{
+    name_bytes(d, mem, number, NamePart::Local)
+}

@@ -1,7 +1,8 @@
 // Every live node, in slot order.
-ghost use Rattle.std.specs.Prelude.{◌≡◌, ◌+◌, ◌≤◌, ◌<◌, length};
+ghost use Rattle.std.specs.Prelude.{◌≡◌, ◌&&◌, ◌+◌, ◌≤◌, ◌<◌, length, leb};
 ghost use Rattle.words.specs.Parts.{put};
 ghost use Rattle.model.specs.Doc.{live_nodes};
+ghost use Rattle.layout.specs.Layout.{memory_ok};
 ghost use Rattle.memory.specs.Decode.{slots_made};
 ghost use Rattle.memory.specs.View.{decoded};
 ghost use Rattle.reading.specs.Nodes.{live_entry};
@@ -38,6 +39,13 @@ fn write_nodes(view: &View<'_>, out: &mut [u64]) -> usize
         count = put_live(view, out, NodeSlot(i as u32), count);
     }
     count
+}
+
+// Test 4 of the reading calls that are lent a list besides, by the lengths of memory and list.
+pub fn nodes_ok(d: Document, mem: usize, out: usize) -> bool
+    ensures { result ≡ (memory_ok d mem && leb d.limits.nodes out) }
+{
+    layout::memory_ok(d, mem) && d.limits.nodes <= out
 }
 
 // Rules out a handle of a free slot among them, and a word written past the last handle.

@@ -8,12 +8,11 @@ use native.Mathlib.Numerals.{add-one}
 use native.Mathlib.Omega.{arith}
 use lib.ListN.{length, get_or, set, take}
 use lib.Dec.{eqb}
-use Rattle.std.specs.List.{copy_within}
 use Rattle.words.specs.Parts.{part, put}
 use Rattle.words.specs.Lists.{tabulate}
 use Rattle.words.specs.Pieces.{pieces}
 use Rattle.words.specs.Ends.{start_of, length_of, lengths_of}
-use Rattle.words.proofs.Parts.{part_none, length_part, copied}
+use Rattle.words.proofs.Parts.{part_none, length_part}
 use Rattle.words.proofs.Lists.{length-tabulate}
 use Rattle.words.proofs.Joined.{length-joined-snoc}
 use Rattle.texts.specs.Pool.{bytes_of}
@@ -113,10 +112,7 @@ module _ (limits : TextLimits) (counts : TextCounts) (words₀ : List ℕ) (h : 
       kept-length : len ≡ length (kept slot)
       kept-length = sym (ap length (sym kept-bytes) ∙ length_part words (bytes_at limits + from) len kept-inside)
 
-      copied-down : copy_within words (bytes_at limits + from) (bytes_at limits + from + len) (bytes_at limits + to) ≡ put (bytes_at limits + to) (part (bytes_at limits + from) len words) words
-      copied-down = copied words (bytes_at limits + from) (bytes_at limits + from + len) len (bytes_at limits + to) refl kept-inside
-
-      pub closing-next : (moved : List ℕ) → moved ≡ copy_within words (bytes_at limits + from) (bytes_at limits + from + len) (bytes_at limits + to)
+      pub closing-next : (moved : List ℕ) → moved ≡ put (bytes_at limits + to) (part (bytes_at limits + from) len words) words
           → Closing words₀ marks counts.slots (bytes_at limits) (set moved slot (to + len)) (slot + 1) (get_or words slot 0) (to + len)
       closing-next moved q =
           record {
@@ -125,7 +121,7 @@ module _ (limits : TextLimits) (counts : TextCounts) (words₀ : List ℕ) (h : 
             end = omega (arith, C.end, kept-length, length-joined-snoc (λ t. t) (tabulate kept slot) (kept slot), ap (λ (k : ℕ). length (bytes_of (tabulate kept k))) (add-one slot));
             lower = omega (arith, C.lower, kept-most, end-above);
             now =
-                ap (λ (l : List ℕ). set l slot (to + len)) (q ∙ copied-down ∙ ap (λ (l : List ℕ). put (bytes_at limits + to) l words) kept-bytes)
+                ap (λ (l : List ℕ). set l slot (to + len)) (q ∙ ap (λ (l : List ℕ). put (bytes_at limits + to) l words) kept-bytes)
                 ∙ ap (λ (l : List ℕ). set (put (bytes_at limits + to) (kept slot) l) slot (to + len)) C.now
                 ∙ ap (λ (k : ℕ). set (put (bytes_at limits + k) (kept slot) (laid (bytes_at limits) (tabulate kept slot) words₀)) slot (to + len)) C.end
                 ∙ ap (λ (k : ℕ). set (put (bytes_at limits + length (bytes_of (tabulate kept slot))) (kept slot) (laid (bytes_at limits) (tabulate kept slot) words₀)) k (to + len)) (sym size-kept)

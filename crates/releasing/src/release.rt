@@ -43,7 +43,7 @@ fn close_gaps(words: &mut [u64], limits: TextLimits, counts: TextCounts, marks: 
     for slot in 0..counts.slots {
         let end = words[slot] as usize;
         let kept = kept_length(end - from, marks[slot]);
-        words.copy_within(base + from..base + from + kept, base + to);
+        words::copy(words, base + from, kept, base + to);
         to += kept;
         words[slot] = to as u64;
         from = end;

@@ -19,12 +19,13 @@ pub struct Session<'a> {
 
 impl Session<'_> {
     // Answers a line; none is one that was not kept, since it is too long.
-    pub fn answer(&mut self, line: Option<&[u8]>) -> fmt::Result {
+    pub fn answer(&mut self, line: Option<&[u8]>) {
         self.lines = self.lines.wrapping_add(1);
         if line.is_some_and(is_silent) {
-            return Ok(());
+            return;
         }
-        put_answer(&mut self.store, self.texts, line, self.lines, &mut self.out)
+        // A sink takes every text (`Sink::write_str` refuses none), and no value here fails by itself.
+        let _ = put_answer(&mut self.store, self.texts, line, self.lines, &mut self.out);
     }
 }
 
@@ -37,7 +38,7 @@ fn put_answer(
 ) -> fmt::Result {
     match line.and_then(|line| parse(line, texts)) {
         Some(Line::Edit(call)) => match store.edit(call) {
-            Ok(reply) => put_reply(store.shown(), reply, out),
+            Ok(reply) => put_reply(store.shown(), reply, out)?,
             Err(why) => refused(out, why),
         },
         Some(Line::Read(call)) => {
@@ -45,27 +46,23 @@ fn put_answer(
             let mem = &mut *store.mem;
             put_read(document, mem, store.scratch, call, out)
         }
-        None => writeln!(out, "? {number}"),
+        None => writeln!(out, "? {number}")?,
     }
+    Ok(())
 }
 
 fn put_reply(shown: Shown<'_>, reply: Reply, out: &mut Sink<'_>) -> fmt::Result {
     match reply {
-        Reply::Done => writeln!(out, "ok"),
-        Reply::Made(id) => writeln!(out, "h {}", Handle(id)),
-        Reply::Found(was) => writeln!(out, "b {}", u8::from(was)),
+        Reply::Done => writeln!(out, "ok")?,
+        Reply::Made(id) => writeln!(out, "h {}", Handle(id))?,
+        Reply::Found(was) => writeln!(out, "b {}", u8::from(was))?,
         Reply::Order => shown.put_order(out),
     }
+    Ok(())
 }
 
 // The handles of the nodes are written to scratch, whose words no call relies on.
-fn put_read(
-    document: Document,
-    mem: &[u64],
-    scratch: &mut [u64],
-    call: Read,
-    out: &mut Sink<'_>,
-) -> fmt::Result {
+fn put_read(document: Document, mem: &[u64], scratch: &mut [u64], call: Read, out: &mut Sink<'_>) {
     let shown = Shown { document, mem };
     match call {
         Read::Root => shown.put_root(out),
@@ -86,7 +83,7 @@ fn put_read(
 }
 
 // The nodes below one, as `Shown::put_nodes` writes all.
-fn put_below(shown: Shown<'_>, id: NodeId, scratch: &mut [u64], out: &mut Sink<'_>) -> fmt::Result {
+fn put_below(shown: Shown<'_>, id: NodeId, scratch: &mut [u64], out: &mut Sink<'_>) {
     let Shown { document, mem } = shown;
     let count = descendants::list::list_below(document, mem, id, scratch);
     listed(out, scratch, count)

@@ -10,9 +10,8 @@ use answer::Session;
 use buffers::{INPUT, MEMORY, OUT, SCRATCH, TEXTS};
 use edit::Store;
 use printing::sink::Sink;
-use std::fmt;
 
-fn main(rt: HostRuntime) -> fmt::Result {
+fn main(rt: HostRuntime) {
     let mut mem = [0; MEMORY];
     let mut scratch = [0; SCRATCH];
     let mut texts = [0; TEXTS];
@@ -24,5 +23,5 @@ fn main(rt: HostRuntime) -> fmt::Result {
         out: Sink::new(&mut out),
         lines: 0,
     };
-    input::replay(rt.stdin(), &mut session, &mut bytes)
+    input::replay(rt.stdin(), &mut session, &mut bytes);
 }

@@ -42,10 +42,9 @@ fn make_room(
     let s = slot.0 as usize;
     let start = piece_start(words, s) as usize;
     let old = words[s] as usize - start;
-    let base = limits.slots + limits.slots;
-    let at = base + start;
+    let at = limits.slots + limits.slots + start;
     if old != len {
-        words.copy_within(at + old..base + counts.bytes, at + len);
+        words::copy(words, at + old, counts.bytes - start - old, at + len);
         move_ends(&mut words[s..counts.slots], old, len);
     }
     Place {

@@ -1,5 +1,6 @@
-// A node's list as it stands in its arena, and a node's lists pushed on a stack.
-ghost use Rattle.std.specs.Prelude.{◌≡◌, reverse, ◌≤◌, length};
+// A node's list as it stands in its arena, entries written behind others, and a node's lists pushed on a stack.
+ghost use Rattle.std.specs.Prelude.{◌≡◌, reverse, ◌+◌, ◌≤◌, length};
+ghost use Rattle.words.specs.Parts.{put};
 ghost use Rattle.model.specs.Kinds.{Which};
 ghost use Rattle.model.specs.Doc.{list_in};
 ghost use Rattle.layout.specs.Layout.{which_of};
@@ -19,6 +20,16 @@ pub fn list_of<'a>(view: &View<'a>, slot: NodeSlot, arena: Arena) -> &'a [u64]
 {
     let block = view.live_block(slot, arena);
     view.block_words(arena, block)
+}
+
+// Writes the entries from a height on, the first first, and answers the height behind them.
+pub fn push_entries(stack: &mut [u64], height: usize, entries: &[u64]) -> usize
+    requires { height + length entries.now ≤ length stack.old }
+    ensures value { result ≡ height + length entries.now }
+    ensures stack_after { stack.new ≡ put height entries.now stack.old }
+{
+    words::write_words(stack, height, entries);
+    height + entries.len()
 }
 
 // Pushes the children, the attributes and the namespaces of the node in a slot.

@@ -2,6 +2,7 @@
 ghost use Rattle.std.specs.Prelude.{◌≡◌, ◌≤◌, ◌<◌, length, set, reverse, slice_get};
 ghost use Rattle.walks.specs.Stack.{stacked, pushed, popped};
 
+use crate::list::push_entries;
 use std::marker::Model;
 
 #[derive(Drop)]
@@ -45,9 +46,7 @@ impl<'a> Stack<'a> {
         requires { length entries.now ≤ length self.old.free }
         ensures { self.new ≡ pushed (reverse entries.now) self.old }
     {
-        let top = self.height + entries.len();
-        self.words[self.height..top].copy_from_slice(entries);
-        self.height = top;
+        self.height = push_entries(self.words, self.height, entries);
     }
 
     // Pushes the entries, the last first, so that the first is on top.
@@ -55,10 +54,7 @@ impl<'a> Stack<'a> {
         requires { length entries.now ≤ length self.old.free }
         ensures { self.new ≡ pushed entries.now self.old }
     {
-        let top = self.height + entries.len();
-        let pushed = &mut self.words[self.height..top];
-        pushed.copy_from_slice(entries);
-        pushed.reverse();
-        self.height = top;
+        words::write_reversed(self.words, self.height, entries);
+        self.height += entries.len();
     }
 }

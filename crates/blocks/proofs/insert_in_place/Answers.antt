@@ -8,7 +8,7 @@ use native.Mathlib.Omega.{arith}
 use lib.ListN.{length, set}
 use Rattle.words.specs.Parts.{part, put}
 use Rattle.words.specs.Lists.{insert_at}
-use Rattle.words.proofs.Parts.{length_part, put_front, set-put-before, copied}
+use Rattle.words.proofs.Parts.{length_part, put_front, set-put-before}
 use Rattle.words.proofs.Lists.{insert_at-part}
 use Rattle.blocks.proofs.insert_in_place.Goals as goal
 
@@ -26,5 +26,5 @@ stored l s n k id h f =
 pub returns : goal.returns
 returns c =
     let a = c.args in
-    ap (λ (l : List ℕ). set l (a.block.start + a.at) a.id) (c.copy_within.ensures.after ∙ copied a.ids.now (a.block.start + a.at) (a.block.start + a.block.len) (a.block.len - a.at) (a.block.start + a.at + 1) (omega arith) (omega arith))
+    ap (λ (l : List ℕ). set l (a.block.start + a.at) a.id) c.copy.ensures
     ∙ stored _ _ _ _ _ (omega arith) (omega arith)

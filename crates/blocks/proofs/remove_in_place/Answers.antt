@@ -7,7 +7,7 @@ use native.Mathlib.Omega.{arith}
 use lib.ListN.{length}
 use Rattle.words.specs.Parts.{part, put}
 use Rattle.words.specs.Lists.{remove_at}
-use Rattle.words.proofs.Parts.{put_front, copied}
+use Rattle.words.proofs.Parts.{put_front}
 use Rattle.words.proofs.Lists.{remove_at-part}
 use Rattle.blocks.proofs.remove_in_place.Goals as goal
 
@@ -23,4 +23,4 @@ closed l s n k h f =
 pub returns : goal.returns
 returns c =
     let a = c.args in
-    c.copy_within.ensures.after ∙ copied _ _ _ (a.block.len - a.at - 1) _ (omega arith) (omega arith) ∙ closed _ _ _ _ (omega arith) (omega arith)
+    c.copy.ensures ∙ closed _ _ _ _ (omega arith) (omega arith)

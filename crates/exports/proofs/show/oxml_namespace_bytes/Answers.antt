@@ -15,4 +15,4 @@ returns-in_default c =
 pub returns : goal.returns
 returns c =
     shows-part c.args.document.now c.in-Some.d (whole c.args.document.now 0 0 _ _ c.lent_record.ensures c.in-Some.is) (λ (d : Document). name_bytes d c.args.memory.now c.args.number 0) _ c.args.out.now _ _
-    (part-told c.in-Some.d c.args.memory.now _ c.args.number 0 c.name_id.ensures _ c.name_bytes.ensures) c.give.ensures
+    (part-told c.in-Some.d c.args.memory.now _ c.args.number 0 c.name_id.ensures _ c.namespace_bytes.ensures) c.give.ensures

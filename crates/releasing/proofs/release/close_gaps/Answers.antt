@@ -28,36 +28,19 @@ overflow_add-base-in-loop-slot-2 c =
     let a = c.args in
     omega (arith, kept-inside a.limits a.counts a.words.now c.requires.0 a.marks.now l.words l.slot l.from l.to l.invariant c.loop-slot-test.true c.kept_length-kept.result c.kept_length-kept.ensures)
 
-pub overflow_add-base-in-loop-slot-3 : goal.overflow_add-base-in-loop-slot-3
-overflow_add-base-in-loop-slot-3 c =
+pub copy-requires : goal.copy-requires
+copy-requires c =
     let l = c.loop-slot in
     let a = c.args in
-    omega (arith, kept-inside a.limits a.counts a.words.now c.requires.0 a.marks.now l.words l.slot l.from l.to l.invariant c.loop-slot-test.true c.kept_length-kept.result c.kept_length-kept.ensures)
-
-pub overflow_add-base-in-loop-slot-4 : goal.overflow_add-base-in-loop-slot-4
-overflow_add-base-in-loop-slot-4 c =
-    let l = c.loop-slot in
-    let a = c.args in
-    omega (arith, kept-inside a.limits a.counts a.words.now c.requires.0 a.marks.now l.words l.slot l.from l.to l.invariant c.loop-slot-test.true c.kept_length-kept.result c.kept_length-kept.ensures)
-
-pub copy_within-requires-clause-in_bounds : goal.copy_within-requires-clause-in_bounds
-copy_within-requires-clause-in_bounds c =
-    let l = c.loop-slot in
-    let a = c.args in
-    omega (arith, kept-inside a.limits a.counts a.words.now c.requires.0 a.marks.now l.words l.slot l.from l.to l.invariant c.loop-slot-test.true c.kept_length-kept.result c.kept_length-kept.ensures)
-
-pub copy_within-requires-clause-dest_in_bounds : goal.copy_within-requires-clause-dest_in_bounds
-copy_within-requires-clause-dest_in_bounds c =
-    let l = c.loop-slot in
-    let a = c.args in
-    omega (arith, kept-inside a.limits a.counts a.words.now c.requires.0 a.marks.now l.words l.slot l.from l.to l.invariant c.loop-slot-test.true c.kept_length-kept.result c.kept_length-kept.ensures)
+    let within = kept-inside a.limits a.counts a.words.now c.requires.0 a.marks.now l.words l.slot l.from l.to l.invariant c.loop-slot-test.true c.kept_length-kept.result c.kept_length-kept.ensures in
+    (within, omega (arith, within, l.invariant.lower))
 
 pub loop-slot-preserved : goal.loop-slot-preserved
 loop-slot-preserved c =
     let l = c.loop-slot in
     let a = c.args in
     let k = c.kept_length-kept in
-    closing-next a.limits a.counts a.words.now c.requires.0 a.marks.now l.words l.slot l.from l.to l.invariant (omega arith) k.result k.ensures _ c.copy_within.ensures.after
+    closing-next a.limits a.counts a.words.now c.requires.0 a.marks.now l.words l.slot l.from l.to l.invariant (omega arith) k.result k.ensures _ c.copy.ensures
 
 pub returns : goal.returns
 returns c =

@@ -1,6 +1,5 @@
 -- `showing::shown::shows_element` meets its contract.
 -- Assumes nothing.
-use mathlib.Core.Path.{◌∙◌}
 use native.Mathlib.Omega.{arith}
 use Rattle.showing.proofs.Found.{live-shown, element-shown, element-stale}
 use Rattle.showing.proofs.shown.shows_element.Goals as goal
@@ -17,8 +16,11 @@ returns-then-resolves c =
     let v = a.view.now in
     element-shown v.document v.words.now a.id (omega arith) (omega arith) _ c.resolves.ensures c.if-resolves.true _ c.is_element.ensures
 
+-- The `false` of the branch, and not the test by its name: a body that answers the like in another form is proved too.
 pub returns-else-resolves : goal.returns-else-resolves
 returns-else-resolves c =
     let a = c.args in
     let v = a.view.now in
-    c.if-resolves.false ∙ element-stale v.document v.words.now a.id (omega arith) (omega arith) _ c.resolves.ensures c.if-resolves.false
+    let stale = element-stale v.document v.words.now a.id (omega arith) (omega arith) _ c.resolves.ensures c.if-resolves.false in
+    let no = c.if-resolves.false in
+    cc

@@ -6,9 +6,8 @@ use Prim.Native.Nat.{ℕ, ◌+◌, ◌-◌, ◌≤◌, ◌<◌}
 use native.Mathlib.Omega.{arith}
 use lib.ListN.{length, get_or, length-map}
 use borrow.Rule.Slice.PartMut.{put_mid}
-use Rattle.std.specs.List.{copy_within}
 use Rattle.words.specs.Parts.{part, put}
-use Rattle.words.proofs.Parts.{copied, length_part, put_back}
+use Rattle.words.proofs.Parts.{length_part, put_back}
 use Rattle.words.specs.declared.ends.Place.{Place}
 use Rattle.words.specs.Ends.{start_of, length_of, moved_end}
 use Rattle.texts.specs.Words.{bytes_at, Counted, start_at, Movable, ends_moved, bytes_moved, roomed}
@@ -35,14 +34,12 @@ module _ (limits : TextLimits) (counts : TextCounts) (words : List ℕ) (slot st
     -- the bytes behind the text, copied to behind its new end
     abbrev Copied : List ℕ → Type 0
     Copied moved =
-        moved ≡ copy_within words (bytes_at limits + start + (get_or words slot 0 - start)) (bytes_at limits + counts.bytes) (bytes_at limits + start + len)
+        moved ≡ put (bytes_at limits + start + len) (part (bytes_at limits + start + (get_or words slot 0 - start)) (counts.bytes - start - (get_or words slot 0 - start)) words) words
 
     bytes-moved : (moved : List ℕ) → Copied moved → moved ≡ bytes_moved limits counts words slot len
     unfolding bytes_moved
     bytes-moved moved q =
         q
-        ∙ copied words (bytes_at limits + start + (get_or words slot 0 - start)) (bytes_at limits + counts.bytes) (counts.bytes - start - (get_or words slot 0 - start)) (bytes_at limits + start + len)
-        (omega (arith, begins)) (omega (arith, h.size, h.bytes))
         ∙ (λ i. put (bytes_at limits + e i + len) (part (bytes_at limits + e i + held i) (counts.bytes - e i - held i) words) words)
 
     movable : counts.bytes + len ≤ limits.bytes + length_of words slot → limits.bytes < 18446744073709551616 → (moved : List ℕ) → Copied moved
@@ -77,6 +74,24 @@ overflow_add-at c =
     let told = c.piece_start-start in
     omega (arith, begins a.limits a.counts a.words.now a.slot.0 told.result c.requires.0 c.requires.1 told.ensures)
 
+pub overflow_add-at-2 : goal.overflow_add-at-2
+overflow_add-at-2 c =
+    let a = c.args in
+    let told = c.piece_start-start in
+    omega (arith, begins a.limits a.counts a.words.now a.slot.0 told.result c.requires.0 c.requires.1 told.ensures)
+
+pub overflow_sub-counts : goal.overflow_sub-counts
+overflow_sub-counts c =
+    let a = c.args in
+    let told = c.piece_start-start in
+    omega (arith, begins a.limits a.counts a.words.now a.slot.0 told.result c.requires.0 c.requires.1 told.ensures)
+
+pub overflow_sub-counts-then-old-len : goal.overflow_sub-counts-then-old-len
+overflow_sub-counts-then-old-len c =
+    let a = c.args in
+    let told = c.piece_start-start in
+    omega (arith, begins a.limits a.counts a.words.now a.slot.0 told.result c.requires.0 c.requires.1 told.ensures)
+
 pub overflow_add-at-then-old-len : goal.overflow_add-at-then-old-len
 overflow_add-at-then-old-len c =
     let a = c.args in
@@ -89,31 +104,27 @@ overflow_add-at-then-old-len-2 c =
     let told = c.piece_start-start in
     omega (arith, begins a.limits a.counts a.words.now a.slot.0 told.result c.requires.0 c.requires.1 told.ensures, held a.limits a.counts a.words.now a.slot.0 told.result c.requires.0 c.requires.1 told.ensures)
 
-pub copy_within-requires-clause-start_le_end : goal.copy_within-requires-clause-start_le_end
-copy_within-requires-clause-start_le_end c =
+pub copy-requires : goal.copy-requires
+copy-requires c =
     let a = c.args in
-    let told = c.piece_start-start in
-    omega (arith, begins a.limits a.counts a.words.now a.slot.0 told.result c.requires.0 c.requires.1 told.ensures)
-
-pub copy_within-requires-clause-dest_in_bounds : goal.copy_within-requires-clause-dest_in_bounds
-copy_within-requires-clause-dest_in_bounds c =
-    let a = c.args in
-    let told = c.piece_start-start in
-    omega (arith, begins a.limits a.counts a.words.now a.slot.0 told.result c.requires.0 c.requires.1 told.ensures, held a.limits a.counts a.words.now a.slot.0 told.result c.requires.0 c.requires.1 told.ensures)
+    let told = c.piece_start-start in (
+      omega (arith, begins a.limits a.counts a.words.now a.slot.0 told.result c.requires.0 c.requires.1 told.ensures, c.requires.0.bytes, c.requires.0.size),
+      omega (arith, begins a.limits a.counts a.words.now a.slot.0 told.result c.requires.0 c.requires.1 told.ensures, held a.limits a.counts a.words.now a.slot.0 told.result c.requires.0 c.requires.1 told.ensures, c.requires.2, c.requires.0.bytes, c.requires.0.size),
+    )
 
 pub move_ends-requires : goal.move_ends-requires
 unfolding part
 move_ends-requires c =
     let a = c.args in
     let told = c.piece_start-start in
-    movable a.limits a.counts a.words.now a.slot.0 told.result c.requires.0 c.requires.1 told.ensures a.len c.requires.2 (omega arith) _ c.copy_within.ensures.after
+    movable a.limits a.counts a.words.now a.slot.0 told.result c.requires.0 c.requires.1 told.ensures a.len c.requires.2 (omega arith) _ c.copy.ensures
 
 pub returns-then-old-len : goal.returns-then-old-len
 unfolding part
 returns-then-old-len c =
     let a = c.args in
     let told = c.piece_start-start in
-    record { value = room a.limits a.counts a.words.now a.slot.0 told.result c.requires.0 c.requires.1 told.ensures; words_after = done a.limits a.counts a.words.now a.slot.0 told.result c.requires.0 c.requires.1 told.ensures a.len _ _ c.copy_within.ensures.after c.requires.2 c.move_ends.ensures }
+    record { value = room a.limits a.counts a.words.now a.slot.0 told.result c.requires.0 c.requires.1 told.ensures; words_after = done a.limits a.counts a.words.now a.slot.0 told.result c.requires.0 c.requires.1 told.ensures a.len _ _ c.copy.ensures c.requires.2 c.move_ends.ensures }
 
 pub returns-else-old-len : goal.returns-else-old-len
 returns-else-old-len c =

@@ -1,0 +1,6 @@
+use Rattle.std.proofs.Common.{◌≡◌}
+use Rattle.words.specs.Parts.{part, put}
+use Rattle.words.proofs.copy_forward.Given as goal
+
+abbrev pub invariant-loop-k : goal.invariant-loop-k
+invariant-loop-k l = l.words ≡ put l.to (part l.from l.k l.initial.words) l.initial.words
